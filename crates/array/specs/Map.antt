@@ -1,0 +1,59 @@
+-- Document 01, "The array" and "Numbers returned": grid marks, and the tests 1, 2 and 3 of a fault map.
+-- Assumes nothing.
+use Prim.Native.Nat.{ℕ}
+use mathlib.Core.Bool.{Bool, cond, not, _&&_}
+use mathlib.Core.List.{List, [], _∷_}
+use lib.Dec.{leb, eqb}
+use lib.ListN.{getD}
+use Rattle.array.specs.Place.{size, inner, processor}
+use Rattle.array.specs.Tests.{or-else, refuse-if, first-in}
+use Rattle.array.specs.Buffer.{all-long}
+use Rattle.array.specs.declared.Verdict.{Verdict}
+
+-- 0 healthy, 1 faulty, 2 no processor; nothing stands beyond the buffer
+abbrev pub mark-at : List ℕ → ℕ → ℕ
+mark-at grid p = getD grid p 2
+
+abbrev pub healthy : List ℕ → ℕ → Bool
+healthy grid p = eqb (mark-at grid p) 0
+
+abbrev pub faulty : List ℕ → ℕ → Bool
+faulty grid p = eqb (mark-at grid p) 1
+
+-- the marks that a position allows: 0 or 1 at a processor, 2 elsewhere
+abbrev pub allowed : ℕ → ℕ → ℕ → ℕ → Bool
+allowed n m p mark = cond (processor n m p) (leb mark 1) (eqb mark 2)
+
+-- 1: N or M outside 1 to 30; place 0
+abbrev pub size-test : ℕ → ℕ → Verdict
+size-test n m = refuse-if (not (size n && size m)) 1 0 0
+
+-- 2: a buffer isn't 1,024 long; place 0. `right` says that all lent buffers are.
+abbrev pub length-test : Bool → Verdict
+length-test right = refuse-if (not right) 2 0 0
+
+-- 3: a grid mark is not what its position allows; the lowest such position
+abbrev pub mark-test : ℕ → ℕ → ℕ → ℕ → Verdict
+mark-test n m p mark = refuse-if (not (allowed n m p mark)) 3 p 0
+
+abbrev pub marks-test : ℕ → ℕ → List ℕ → Verdict
+marks-test n m grid = first-in (mark-test n m) grid
+
+-- 1 to 3
+unfoldable pub map-tests : ℕ → ℕ → Bool → List ℕ → Verdict
+map-tests n m right grid = or-else (size-test n m) (or-else (length-test right) (marks-test n m grid))
+
+-- the same of a call that is lent these buffers, the grid among them
+abbrev pub map-test : ℕ → ℕ → List (List ℕ) → List ℕ → Verdict
+map-test n m lent grid = map-tests n m (all-long lent) grid
+
+-- document 01's "well-formed": 1 to 3 do not apply to N, M and the grid
+abbrev pub well-formed : ℕ → ℕ → List ℕ → Verdict
+well-formed n m grid = map-test n m (grid ∷ []) grid
+
+-- an inner fault: at p, by its mark, and in a grid
+abbrev pub inner-faulty : ℕ → ℕ → ℕ → ℕ → Bool
+inner-faulty n m p mark = inner n m p && eqb mark 1
+
+abbrev pub inner-fault : ℕ → ℕ → List ℕ → ℕ → Bool
+inner-fault n m grid p = inner-faulty n m p (mark-at grid p)

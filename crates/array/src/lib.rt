@@ -1,0 +1,112 @@
+// Positions of the array, fault maps, and what the tests of a call's arguments answer.
+ghost use mathlib.Core.Path.{_≡_};
+ghost use mathlib.Core.Bool.{true};
+ghost use Prim.Native.Nat.{_≤_, _<_};
+ghost use mathlib.Core.List.{_++_};
+ghost use lib.ListN.{length, drop};
+ghost use Rattle.array.specs.Place.{size, inner-at, corner-at, processor-at, inner, processor};
+ghost use Rattle.array.specs.Map.{allowed, marks-test, map-tests};
+
+// The refusal of a call: document 01's number, the place and the second place.
+pub struct Refusal {
+    pub number: u8,
+    pub place: usize,
+    pub second: usize,
+}
+
+// What the tests of a call's arguments say.
+pub enum Verdict {
+    Accepted,
+    Refused(Refusal),
+}
+
+// The functions of this crate are inner parts of the operations; some have a `requires`.
+
+pub fn is_size(k: usize) -> bool
+    ensures { λ r. ⌜ r ≡ size k ⌝ }
+{
+    (1 <= k) & (k <= 30)
+}
+
+pub fn is_inner_at(n: usize, m: usize, x: usize, y: usize) -> bool
+    ensures { λ r. ⌜ r ≡ inner-at n m x y ⌝ }
+{
+    ((1 <= x) & (x <= n)) & ((1 <= y) & (y <= m))
+}
+
+fn is_corner_at(n: usize, m: usize, x: usize, y: usize) -> bool
+    requires { ⌜ (n ≤ 30) × (m ≤ 30) ⌝ }
+    ensures { λ r. ⌜ r ≡ corner-at n m x y ⌝ }
+{
+    ((x == 0) | (x == n + 1)) & ((y == 0) | (y == m + 1))
+}
+
+pub fn is_processor_at(n: usize, m: usize, x: usize, y: usize) -> bool
+    requires { ⌜ (n ≤ 30) × (m ≤ 30) ⌝ }
+    ensures { λ r. ⌜ r ≡ processor-at n m x y ⌝ }
+{
+    ((x <= n + 1) & (y <= m + 1)) & !is_corner_at(n, m, x, y)
+}
+
+pub fn is_inner(n: usize, m: usize, p: usize) -> bool
+    ensures { λ r. ⌜ r ≡ inner n m p ⌝ }
+{
+    is_inner_at(n, m, p / 32, p % 32)
+}
+
+pub fn is_processor(n: usize, m: usize, p: usize) -> bool
+    requires { ⌜ (n ≤ 30) × (m ≤ 30) ⌝ }
+    ensures { λ r. ⌜ r ≡ processor n m p ⌝ }
+{
+    is_processor_at(n, m, p / 32, p % 32)
+}
+
+pub fn is_allowed(n: usize, m: usize, p: usize, mark: u8) -> bool
+    requires { ⌜ (n ≤ 30) × (m ≤ 30) ⌝ }
+    ensures { λ r. ⌜ r ≡ allowed n m p mark ⌝ }
+{
+    if is_processor(n, m, p) {
+        mark <= 1
+    } else {
+        mark == 2
+    }
+}
+
+// Test 3.
+fn check_marks(n: usize, m: usize, grid: &[u8]) -> Verdict
+    requires { ⌜ (n ≤ 30) × (m ≤ 30) × (length (now grid) ≡ 1024) ⌝ }
+    ensures { λ r. ⌜ r ≡ marks-test n m (now (grid .entry)) ⌝ }
+{
+    for p in 0..1024 {
+        if !is_allowed(n, m, p, grid[p]) {
+            return Verdict::Refused(Refusal {
+                number: 3,
+                place: p,
+                second: 0,
+            });
+        }
+    }
+    Verdict::Accepted
+}
+
+// Tests 1 to 3, where `right` says that every lent buffer has 1,024 elements, the grid among them.
+pub fn check_map(n: usize, m: usize, right: bool, grid: &[u8]) -> Verdict
+    requires { ⌜ (right ≡ true → length (now grid) ≡ 1024) ⌝ }
+    ensures { λ r. ⌜ r ≡ map-tests n m right (now (grid .entry)) ⌝ }
+{
+    if !(is_size(n) & is_size(m)) {
+        return Verdict::Refused(Refusal {
+            number: 1,
+            place: 0,
+            second: 0,
+        });
+    }
+    if !right {
+        return Verdict::Refused(Refusal {
+            number: 2,
+            place: 0,
+            second: 0,
+        });
+    }
+    check_marks(n, m, grid)
+}
