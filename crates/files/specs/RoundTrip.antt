@@ -1,0 +1,24 @@
+-- Demand 2: a plan or map that is written and read again is unchanged; a number likewise. The statements.
+-- Assumes nothing.
+use Prim.Native.Nat.{ℕ, _<_}
+use mathlib.Core.Path.{_≡_}
+use mathlib.Core.List.{List, _++_}
+use lib.ListN.{length, take}
+use Rattle.formats.specs.Number.{number-at, bytes-of}
+use Rattle.formats.specs.Records.{record-count}
+use Rattle.formats.specs.declared.Number.the-variants.{Read}
+use Rattle.formats.specs.declared.Kind.{Kind}
+use Rattle.readers.specs.Reading.{read-file}
+use Rattle.readers.specs.declared.FileRead.the-variants.{File}
+use Rattle.writers.specs.Writing.{write-file}
+use Rattle.writers.specs.declared.FileWritten.the-variants.{Length}
+
+pub record Round-trip : Type 0 where
+  -- a number of at most 16,383, wherever it stands in a file
+  pub number-unchanged : (v : ℕ) (before after : List ℕ) → v < 16384
+      → number-at (before ++ (bytes-of v ++ after)) (length before) ≡ Read v (length (before ++ bytes-of v))
+  -- Where the writer accepts and returns k, the first k bytes of the file buffer are read, over any lent buffer of 1,024 elements, as the
+  -- same N and M, the count of what was written, and the same grid or directions.
+  pub file-unchanged : (kind : Kind) (n m k : ℕ) (b out lent : List ℕ) → length lent ≡ 1024 → write-file kind n m b out .0 ≡ Length k
+      → read-file kind (take k (write-file kind n m b out .1)) lent
+      ≡ (File (record { rows = n; columns = m; count = record-count kind b }), b)

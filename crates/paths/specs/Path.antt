@@ -1,0 +1,79 @@
+-- Document 01, "Paths and plans": a path is given by the position p of its fault and its direction d.
+-- Assumes nothing.
+use Prim.Native.Nat.{ℕ, _+_, _-_, _*_, _≤_}
+use mathlib.Core.Path.{_≡_}
+use mathlib.Core.Bool.{Bool, true, false, cond, not, _&&_, _||_}
+use mathlib.Core.List.{List, [], _∷_}
+use lib.Dec.{ltb, eqb}
+use lib.ListN.{drop}
+use Rattle.array.specs.Place.{row, column, inner}
+use Rattle.array.specs.Buffer.{tabulate}
+use Rattle.array.specs.Map.{faulty}
+use Rattle.array.specs.Tests.{or-else, refuse-if}
+use Rattle.array.specs.declared.Verdict.{Verdict}
+
+-- a choice by direction: 1 south, 2 north, 3 east, 4 west, and what stands for any other number
+abbrev pub by-direction : {A : Type 0} → ℕ → A → A → A → A → A → A
+by-direction d south north east west other =
+    cond (eqb d 1) south (cond (eqb d 2) north (cond (eqb d 3) east (cond (eqb d 4) west other)))
+
+-- the position k steps ahead of p
+abbrev pub ahead : ℕ → ℕ → ℕ → ℕ
+ahead p d k = by-direction d (p + 32 * k) (p - 32 * k) (p + k) (p - k) p
+
+-- how many processors a path has, from its fault to the spare on its side; none where d is no direction
+abbrev pub path-length : ℕ → ℕ → ℕ → ℕ → ℕ
+path-length n m p d = by-direction d (n + 2 - row p) (row p + 1) (m + 2 - column p) (column p + 1) 0
+
+-- a path: it starts at an inner fault and runs straight to the spare on its side, both included
+unfoldable pub path : ℕ → ℕ → ℕ → ℕ → List ℕ
+path n m p d = tabulate (ahead p d) (path-length n m p d)
+
+unfoldable pub none-faulty : List ℕ → List ℕ → Bool
+none-faulty grid [] = true
+none-faulty grid (q ∷ qs) = not (faulty grid q) && none-faulty grid qs
+
+-- open: no processor after the start is faulty, the spare included
+unfoldable pub is-open : ℕ → ℕ → List ℕ → ℕ → ℕ → Bool
+is-open n m grid p d = none-faulty grid (drop 1 (path n m p d))
+
+unfoldable pub member : ℕ → List ℕ → Bool
+member q [] = false
+member q (x ∷ xs) = eqb q x || member q xs
+
+-- two lists have an element in common
+unfoldable pub share : List ℕ → List ℕ → Bool
+share [] ys = false
+share (x ∷ xs) ys = member x ys || share xs ys
+
+-- two paths meet: they share a processor
+unfoldable pub meet : ℕ → ℕ → ℕ → ℕ → ℕ → ℕ → Bool
+meet n m p d q e = share (path n m p d) (path n m q e)
+
+-- |a − b|
+abbrev pub difference : ℕ → ℕ → ℕ
+difference a b = (a - b) + (b - a)
+
+-- a south path from (x1, y1) and a north path from (x2, y2), where |y1 − y2| = 1 and x1 < x2
+abbrev pub south-north : ℕ → ℕ → ℕ → ℕ → Bool
+south-north p d q e = (eqb d 1 && eqb e 2) && (eqb (difference (column p) (column q)) 1 && ltb (row p) (row q))
+
+-- an east path from (x1, y1) and a west path from (x2, y2), where |x1 − x2| = 1 and y1 < y2
+abbrev pub east-west : ℕ → ℕ → ℕ → ℕ → Bool
+east-west p d q e = (eqb d 3 && eqb e 4) && (eqb (difference (row p) (row q)) 1 && ltb (column p) (column q))
+
+-- document 01's "near-miss"; either of the two paths may be named first
+unfoldable pub near-miss : ℕ → ℕ → ℕ → ℕ → Bool
+near-miss p d q e = (south-north p d q e || east-west p d q e) || (south-north q e p d || east-west q e p d)
+
+-- 6 and 7 of a pair, with both starts: meeting before near-miss
+unfoldable pub pair-test : ℕ → ℕ → ℕ → ℕ → ℕ → ℕ → Verdict
+pair-test n m p d q e = or-else (refuse-if (meet n m p d q e) 6 p q) (refuse-if (near-miss p d q e) 7 p q)
+
+-- a start and a direction that a path may have
+pub record Start (n m p d : ℕ) : Type 0 where
+  pub rows : n ≤ 30
+  pub columns : m ≤ 30
+  pub at : inner n m p ≡ true
+  pub low : 1 ≤ d
+  pub high : d ≤ 4

@@ -1,0 +1,104 @@
+-- Document 01, "Files" and "Numbers returned": what a reader answers, and the lent buffer afterwards.
+-- Assumes nothing.
+use Prim.Native.Nat.{ℕ, zero, suc}
+use mathlib.Core.Bool.{cond, _&&_}
+use mathlib.Core.List.{List, [], _∷_}
+use lib.Dec.{ltb, leb, eqb}
+use lib.ListN.{length, getD, set}
+use Rattle.array.specs.Place.{position, inner-at, processor-at}
+use Rattle.array.specs.Tests.{refusal, Told, accepts, refuses-as}
+use Rattle.array.specs.Buffer.{long}
+use Rattle.array.specs.Map.{faulty}
+use Rattle.array.specs.declared.Refusal.{Refusal}
+use Rattle.formats.specs.Number.{number-at, size-at, read-or}
+use Rattle.formats.specs.Records.{blank}
+use Rattle.formats.specs.declared.Kind.{Kind}
+use Rattle.formats.specs.declared.Kind.the-variants.{Map, Plan}
+use Rattle.readers.specs.declared.Head.{Head}
+use Rattle.readers.specs.declared.Step.{Step}
+use Rattle.readers.specs.declared.Step.the-variants as step
+use Rattle.readers.specs.declared.FileRead.{FileRead}
+use Rattle.readers.specs.declared.FileRead.the-variants.{File, Refused}
+
+-- N, M and the count, or the refusal
+abbrev pub told : FileRead → Told
+told (File h) = accepts (h .rows ∷ h .columns ∷ h .count ∷ [])
+told (Refused r) = refuses-as r
+
+-- a record's refusal, with the buffer as it was; place is the record's row
+abbrev pub no-record : ℕ → ℕ → List ℕ → Step × List ℕ
+no-record k at b = (step.Refused (refusal k at 0), b)
+
+-- A fault (x, y) is marked in a grid. 10: it isn't a processor. 11: a record repeats a position.
+abbrev pub mark-fault : ℕ → ℕ → ℕ → ℕ → ℕ → ℕ → List ℕ → Step × List ℕ
+mark-fault n m at x y next grid =
+    cond (processor-at n m x y)
+    (cond (faulty grid (position x y)) (no-record 11 at grid) (step.Next next, set grid (position x y) 1))
+    (no-record 10 at grid)
+
+-- The path of direction d from (x, y) is marked among the directions. 10: its start isn't inner. 11: a record repeats a position.
+-- 13: the direction is outside 1 to 4.
+abbrev pub mark-path : ℕ → ℕ → ℕ → ℕ → ℕ → ℕ → ℕ → List ℕ → Step × List ℕ
+mark-path n m at x y d next directions =
+    cond (inner-at n m x y)
+    (cond (eqb (getD directions (position x y) 0) 0)
+    (cond (leb 1 d && leb d 4) (step.Next next, set directions (position x y) d) (no-record 13 at directions))
+    (no-record 11 at directions))
+    (no-record 10 at directions)
+
+-- the record at an offset, judged once all its numbers are read
+unfoldable pub record-at : Kind → List ℕ → ℕ → ℕ → ℕ → List ℕ → Step × List ℕ
+record-at Map s n m at grid =
+    read-or (number-at s at)
+    (λ x a.
+    read-or (number-at s a)
+    (λ y next. mark-fault n m at x y next grid)
+    (λ r. (step.Refused r, grid)))
+    (λ r. (step.Refused r, grid))
+record-at Plan s n m at directions =
+    read-or (number-at s at)
+    (λ x a.
+    read-or (number-at s a)
+    (λ y b.
+    read-or (number-at s b)
+    (λ d next. mark-path n m at x y d next directions)
+    (λ r. (step.Refused r, directions)))
+    (λ r. (step.Refused r, directions)))
+    (λ r. (step.Refused r, directions))
+
+-- a record's answer with the buffer being filled, and what follows it
+abbrev pub and-then : Step × List ℕ → (ℕ → List ℕ → Step × List ℕ) → Step × List ℕ
+and-then (step.Next at, b) f = f at b
+and-then (step.Refused r, b) f = (step.Refused r, b)
+
+-- k records from an offset on
+unfoldable pub records-at : Kind → List ℕ → ℕ → ℕ → ℕ → ℕ → List ℕ → Step × List ℕ
+records-at kind s n m zero at b = (step.Next at, b)
+records-at kind s n m (suc k) at b = and-then (record-at kind s n m at b) (λ next c. records-at kind s n m k next c)
+
+-- 12: bytes follow the last record; place is the first of them. A refusal leaves the lent buffer as it was.
+abbrev pub whole-file : List ℕ → Head → List ℕ → Step × List ℕ → FileRead × List ℕ
+whole-file s head lent (step.Next at, b) = cond (ltb at (length s)) (Refused (refusal 12 at 0), lent) (File head, b)
+whole-file s head lent (step.Refused r, b) = (Refused r, lent)
+
+-- what a reader answers, with the lent buffer afterwards: 2, then the file from left to right
+unfoldable pub read-file : Kind → List ℕ → List ℕ → FileRead × List ℕ
+read-file kind s lent =
+    cond (long lent)
+    (read-or (size-at s 0)
+    (λ n a.
+    read-or (size-at s a)
+    (λ m b.
+    read-or (number-at s b)
+    (λ k c. whole-file s (record { rows = n; columns = m; count = k }) lent (records-at kind s n m k c (blank kind n m)))
+    (λ r. (Refused r, lent)))
+    (λ r. (Refused r, lent)))
+    (λ r. (Refused r, lent)))
+    (Refused (refusal 2 0 0), lent)
+
+-- what read_map and read_plan answer
+abbrev pub read-map : List ℕ → List ℕ → FileRead × List ℕ
+read-map s grid = read-file Map s grid
+
+abbrev pub read-plan : List ℕ → List ℕ → FileRead × List ℕ
+read-plan s directions = read-file Plan s directions

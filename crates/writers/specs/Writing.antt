@@ -1,0 +1,54 @@
+-- Document 01, "Files" and "Numbers returned": what a writer answers, and the file buffer afterwards.
+-- Assumes nothing.
+use Prim.Native.Nat.{ℕ}
+use mathlib.Core.Bool.{not, _&&_, _||_}
+use mathlib.Core.List.{List, [], _∷_, _++_}
+use lib.Dec.{ltb, eqb}
+use lib.ListN.{length, drop}
+use Rattle.array.specs.Place.{inner}
+use Rattle.array.specs.Tests.{or-else, refuse-if, first-in, Told, accepts, refuses-as}
+use Rattle.array.specs.Buffer.{all-long}
+use Rattle.array.specs.Map.{size-test, length-test, map-test}
+use Rattle.array.specs.declared.Verdict.{Verdict}
+use Rattle.array.specs.declared.Verdict.the-variants as verdict
+use Rattle.formats.specs.Records.{file-bytes}
+use Rattle.formats.specs.declared.Kind.{Kind}
+use Rattle.formats.specs.declared.Kind.the-variants.{Map, Plan}
+use Rattle.writers.specs.declared.FileWritten.{FileWritten}
+use Rattle.writers.specs.declared.FileWritten.the-variants.{Length, Refused}
+
+-- the length, or the refusal
+abbrev pub told : FileWritten → Told
+told (Length k) = accepts (k ∷ [])
+told (Refused r) = refuses-as r
+
+-- 4 of a plan without a grid: a direction above 4, or off the inner positions
+abbrev pub path-test : ℕ → ℕ → ℕ → ℕ → Verdict
+path-test n m p d = refuse-if (ltb 4 d || (not (inner n m p) && not (eqb d 0))) 4 p 0
+
+-- 1 to 3 of a map; 1, 2 and 4 of a plan
+unfoldable pub buffer-test : Kind → ℕ → ℕ → List ℕ → Verdict
+buffer-test Map n m grid = map-test n m (grid ∷ []) grid
+buffer-test Plan n m directions =
+    or-else (size-test n m) (or-else (length-test (all-long (directions ∷ []))) (first-in (path-test n m) directions))
+
+-- 14: the file buffer is too short; place is the length needed
+abbrev pub room-test : List ℕ → List ℕ → Verdict
+room-test bytes out = refuse-if (ltb (length out) (length bytes)) 14 (length bytes) 0
+
+-- a writer returns the length and keeps the bytes after it; a refusal leaves the file buffer as it was
+abbrev pub put : Verdict → List ℕ → List ℕ → FileWritten × List ℕ
+put verdict.Accepted bytes out = (Length (length bytes), bytes ++ drop (length bytes) out)
+put (verdict.Refused r) bytes out = (Refused r, out)
+
+-- what a writer answers, with the file buffer afterwards
+unfoldable pub write-file : Kind → ℕ → ℕ → List ℕ → List ℕ → FileWritten × List ℕ
+write-file kind n m b out =
+    put (or-else (buffer-test kind n m b) (room-test (file-bytes kind n m b) out)) (file-bytes kind n m b) out
+
+-- what write_map and write_plan answer
+abbrev pub write-map : ℕ → ℕ → List ℕ → List ℕ → FileWritten × List ℕ
+write-map n m grid out = write-file Map n m grid out
+
+abbrev pub write-plan : ℕ → ℕ → List ℕ → List ℕ → FileWritten × List ℕ
+write-plan n m directions out = write-file Plan n m directions out
