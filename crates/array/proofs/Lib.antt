@@ -6,3 +6,4 @@ pub mod Fills
 pub mod Filters
 pub mod Answers
 pub mod Marks
+pub mod Maps
