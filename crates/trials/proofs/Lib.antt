@@ -1,2 +1,4 @@
 pub mod Offers
 pub mod Laws
+pub mod Plans
+pub mod Theorems

@@ -1,0 +1,124 @@
+-- The trial rule: what is found is the first of all plans, and nothing is found exactly where every choice is blocked; T's bound; no fault.
+-- Assumes nothing.
+use Prim.Native.Nat.{ℕ, suc, _+_, _*_, _^_, _≤_, _<_}
+use mathlib.Core.Path.{_≡_, refl, ap, sym, subst, _∙_}
+use mathlib.Core.Bool.{Bool, true, false, not, _&&_, true≢false}
+use mathlib.Core.Logic.{_⊎_, inl, inr, ⊎-elim}
+use mathlib.Core.List.{List, []}
+use native.Mathlib.Numerals.{add-one}
+use native.Mathlib.Omega.{arith}
+use lib.ListN.{length, getD}
+use Rattle.array.proofs.Bools.{and-true, by-bool}
+use Rattle.paths.specs.Path.{is-open, meet, near-miss}
+use Rattle.plans.specs.Faults.{faults}
+use Rattle.plans.specs.Plan.{start-of, Choice, Plan, Blocked, not-open, meeting, near, Every-choice-blocked, Not-after, First-plan}
+use Rattle.trials.specs.Trials.{Search, found, exhausted, trials, keeps, clear-of, count}
+use Rattle.trials.specs.Search.{clear, searched, planned, T}
+use Rattle.trials.specs.Theorems.{Trial-rule}
+use Rattle.trials.proofs.Laws.{Kept, Answers, answers, trials-bound}
+use Rattle.trials.proofs.Plans.{Chosen, Sound, Wrong, shut, clash-before, clash, kept-sound, sound-kept, kept-or-wrong}
+
+-- two paths are clear where they neither meet nor nearly miss
+module _ (n m p d q e : ℕ) where
+  clear-intro : meet n m p d q e ≡ false → near-miss p d q e ≡ false → clear n m p d q e ≡ true
+  unfolding clear
+  clear-intro a b = rw (a, b)
+
+  clear-both : clear n m p d q e ≡ true → (meet n m p d q e ≡ false) × (near-miss p d q e ≡ false)
+  unfolding clear
+  clear-both h = by (meet n m p d q e) (near-miss p d q e) h
+    where
+      by : (a b : Bool) → (not a && not b) ≡ true → (a ≡ false) × (b ≡ false)
+      by false false h = (refl, refl)
+      by false true h = absurd (true≢false (sym h))
+      by true b h = absurd (true≢false (sym h))
+
+  clear-not : clear n m p d q e ≡ false → (meet n m p d q e ≡ true) ⊎ (near-miss p d q e ≡ true)
+  unfolding clear
+  clear-not h = by (meet n m p d q e) (near-miss p d q e) h
+    where
+      by : (a b : Bool) → (not a && not b) ≡ false → (a ≡ true) ⊎ (b ≡ true)
+      by true b h = inl refl
+      by false true h = inr refl
+      by false false h = absurd (true≢false h)
+
+module _ (n m : ℕ) (grid : List ℕ) where
+  abbrev Sound-at : List ℕ → Type 0
+  Sound-at xs = Sound (is-open n m grid) (clear n m) [] (faults n m grid) xs
+
+  plan-sound : (xs : List ℕ) → Plan n m grid xs → Sound-at xs
+  unfolding clear-of
+  plan-sound xs h =
+      record {
+        chosen = record { one-each = h .one-path .one-each; straight = h .one-path .straight };
+        open-at = h .open-path;
+        apart-at = λ k l. refl;
+        clear-at = λ i j a b. clear-intro n m _ _ _ _ (h .no-meeting i j a b) (h .no-near-miss i j a b);
+      }
+
+  sound-plan : (xs : List ℕ) → Sound-at xs → Plan n m grid xs
+  sound-plan xs s =
+      record {
+        one-path = record { one-each = s .chosen .one-each; straight = s .chosen .straight };
+        open-path = s .open-at;
+        no-meeting = λ i j a b. clear-both n m _ _ _ _ (s .clear-at i j a b) .0;
+        no-near-miss = λ i j a b. clear-both n m _ _ _ _ (s .clear-at i j a b) .1;
+      }
+
+  wrong-blocked : (xs : List ℕ) → Wrong (is-open n m grid) (clear n m) [] (faults n m grid) xs → Blocked n m grid xs
+  unfolding clear-of
+  wrong-blocked xs (shut k l e) = not-open k l e
+  wrong-blocked xs (clash-before k l e) = absurd (true≢false e)
+  wrong-blocked xs (clash i j a b e) = ⊎-elim (λ q. meeting i j a b q) (λ q. near i j a b q) (clear-not n m _ _ _ _ e)
+
+  blocked-no-plan : (xs : List ℕ) → Blocked n m grid xs → Plan n m grid xs → ⊥
+  blocked-no-plan xs (not-open k l e) h = true≢false (sym (h .open-path k l) ∙ e)
+  blocked-no-plan xs (meeting i j a b e) h = true≢false (sym e ∙ h .no-meeting i j a b)
+  blocked-no-plan xs (near i j a b e) h = true≢false (sym e ∙ h .no-near-miss i j a b)
+
+  abbrev Kept-at : List ℕ → Type 0
+  Kept-at xs = Kept (keeps (is-open n m grid) (clear n m)) [] (faults n m grid) xs
+
+  -- what the trials of the map say, by their end
+  said : (s : Search) → planned n m grid ≡ s → Answers (keeps (is-open n m grid) (clear n m)) [] (faults n m grid) s
+  unfolding planned searched
+  said s e = subst (Answers (keeps (is-open n m grid) (clear n m)) [] (faults n m grid)) e (answers _ (faults n m grid) [])
+
+  first-of-plans : (k : ℕ) (xs : List ℕ) → planned n m grid ≡ found k xs → First-plan n m grid xs
+  first-of-plans k xs e =
+      let h = said (found k xs) e in
+      record {
+        is-plan = sound-plan xs (kept-sound _ _ (faults n m grid) xs [] (h .0));
+        none-before = λ ys p. h .1 ys (sound-kept _ _ (faults n m grid) ys [] (plan-sound ys p));
+      }
+
+  none-found : (k : ℕ) → planned n m grid ≡ exhausted k → Every-choice-blocked n m grid
+  none-found k e xs h =
+      ⊎-elim (λ v. absurd (said (exhausted k) e xs v)) (wrong-blocked xs)
+      (kept-or-wrong _ _ (faults n m grid) xs [] (record { one-each = h .one-each; straight = h .straight }))
+
+  none-there : Every-choice-blocked n m grid → planned n m grid ≡ exhausted (T n m grid)
+  unfolding T
+  none-there b = by (planned n m grid) refl
+    where
+      by : (s : Search) → planned n m grid ≡ s → s ≡ exhausted (count s)
+      by (found k xs) e =
+          let p = first-of-plans k xs e .is-plan in absurd (blocked-no-plan xs (b xs (p .one-path)) p)
+      by (exhausted k) e = refl
+
+  bound : 3 * T n m grid + 4 ≤ 4 ^ (length (faults n m grid) + 1)
+  unfolding T planned searched
+  bound = rw add-one (trials-bound (keeps (is-open n m grid) (clear n m)) (faults n m grid) [])
+
+  no-fault : faults n m grid ≡ [] → planned n m grid ≡ found 0 []
+  unfolding planned searched trials
+  no-fault e = rw (e, trials)
+
+pub trial-rule : Trial-rule
+trial-rule = record {
+  first-of-plans = λ n m k grid xs e. first-of-plans n m grid k xs e;
+  none-found = λ n m k grid e. none-found n m grid k e;
+  none-there = none-there;
+  bound = bound;
+  no-fault = no-fault;
+}
