@@ -2,3 +2,5 @@ pub mod Offers
 pub mod Laws
 pub mod Plans
 pub mod Theorems
+pub mod Rest
+pub mod Looping
