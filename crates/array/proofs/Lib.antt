@@ -5,3 +5,4 @@ pub mod Scans
 pub mod Fills
 pub mod Filters
 pub mod Answers
+pub mod Marks
