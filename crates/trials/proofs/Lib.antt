@@ -4,3 +4,5 @@ pub mod Plans
 pub mod Theorems
 pub mod Rest
 pub mod Looping
+pub mod Testing
+pub mod Writing

@@ -6,11 +6,14 @@ use mathlib.Core.Bool.{Bool, true}
 use mathlib.Core.List.{List, [], _∷_}
 use lib.ListN.{length, getD}
 use Rattle.array.specs.Place.{inner}
+use Rattle.array.specs.Buffer.{buffer, zeros}
 use Rattle.paths.specs.Path.{is-open}
-use Rattle.plans.specs.Faults.{fault}
+use Rattle.plans.specs.Faults.{fault, paired}
 use Rattle.plans.specs.declared.Fault.{Fault}
 use Rattle.trials.specs.Trials.{Search, found, exhausted, keeps}
-use Rattle.trials.specs.Search.{clear}
+use Rattle.trials.specs.Search.{clear, direction-of}
+use Rattle.trials.specs.declared.Outcome.{Outcome}
+use Rattle.trials.specs.declared.Outcome.the-variants.{Repaired, Beyond, Spent}
 
 -- the first k faults with their directions, latest first
 unfoldable pub kept-in : List ℕ → List ℕ → ℕ → List Fault
@@ -37,3 +40,9 @@ pub record Searchable (n m : ℕ) (grid starts chosen : List ℕ) : Type 0 where
 abbrev pub Holds : ℕ → Search → List ℕ → Type 0
 Holds limit (found k xs) front = k ≤ limit → front ≡ xs
 Holds limit (exhausted k) front = Unit {0}
+
+-- the direction buffer by the outcome, where these are the directions chosen
+unfoldable pub finished : List ℕ → List ℕ → Outcome → List ℕ
+finished starts chosen (Repaired k) = buffer (direction-of (paired starts chosen))
+finished starts chosen (Beyond k) = zeros
+finished starts chosen (Spent k) = zeros
