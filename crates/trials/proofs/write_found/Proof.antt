@@ -1,58 +1,49 @@
+-- `trials::write_found` meets its contract: one way of writing for each outcome.
+-- Assumes nothing.
+use mathlib.Core.Path.{ap, sym, _∙_}
+use Rattle.trials.specs.Inner.{finished}
 use borrow.Author.Needs.{needs}
 use Rattle.trials.proofs.write_found.Statement.{statement}
 use Rattle.trials.proofs.write_found.Tie as tie
-use Rattle.trials.proofs.write_found.Reads as reads
-use Rattle.trials.proofs.write_found.Lts as lts
-use Rattle.trials.proofs.wipe.Reads as wipe-reads
-use Rattle.trials.proofs.write_plan.Reads as write-plan-reads
 
--- src/lib.rt:130:60
 enum-told : tie.Need-enum-told
 enum-told c = search needs
 
--- src/lib.rt:130:33
 write-plan-requires : tie.Need-write-plan-requires
 write-plan-requires c κs = search needs
 
--- src/lib.rt:131:36
 enum-told-2 : tie.Need-enum-told-2
 enum-told-2 c = search needs
 
--- src/lib.rt:131:31
 wipe-requires : tie.Need-wipe-requires
 wipe-requires c κs = search needs
 
--- src/lib.rt:132:35
 enum-told-3 : tie.Need-enum-told-3
 enum-told-3 c = search needs
 
--- src/lib.rt:132:30
 wipe-requires-2 : tie.Need-wipe-requires-2
 wipe-requires-2 c κs = search needs
 
--- src/lib.rt:124:1
 same-length : tie.Need-same-length
 same-length c = search needs
 
--- src/lib.rt:124:1
 returns : tie.Need-returns
-returns c = ?
+unfolding finished
+returns c = c .before .before .write-plan .ensures ∙ sym (ap (finished _ _) (c .before .before .before .before .enum-told .given .1))
 
--- src/lib.rt:124:1
 same-length-2 : tie.Need-same-length-2
 same-length-2 c = search needs
 
--- src/lib.rt:124:1
 returns-2 : tie.Need-returns-2
-returns-2 c = ?
+unfolding finished
+returns-2 c = c .before .before .wipe .ensures ∙ sym (ap (finished _ _) (c .before .before .before .before .enum-told2 .given .1))
 
--- src/lib.rt:124:1
 same-length-3 : tie.Need-same-length-3
 same-length-3 c = search needs
 
--- src/lib.rt:124:1
 returns-3 : tie.Need-returns-3
-returns-3 c = ?
+unfolding finished
+returns-3 c = c .before .before .wipe2 .ensures ∙ sym (ap (finished _ _) (c .before .before .before .before .enum-told3 .given .1))
 
 pub write-found-spec : {M : Type 1} → statement M
 write-found-spec =

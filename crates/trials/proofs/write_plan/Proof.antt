@@ -1,62 +1,53 @@
+-- `trials::write_plan` meets its contract: the faults from k on are written, last fault first, so that each store is one turn of the definition.
+-- Assumes nothing.
+use Prim.Native.Nat.{_-_}
+use Rattle.trials.proofs.Writing.{Writing, write-start, write-step, write-end}
+use native.Mathlib.Omega.{arith}
+use borrow.Author.Needs.{needs}
 use Rattle.trials.proofs.write_plan.Statement.{statement}
 use Rattle.trials.proofs.write_plan.Tie as tie
-use Rattle.trials.proofs.write_plan.Reads as reads
-use Rattle.trials.proofs.write_plan.Lts as lts
-use Rattle.trials.proofs.wipe.Reads as wipe-reads
 
 abbrev Inv-loop : tie.InvT-loop
-Inv-loop starts chosen directions₀ k₀ directions k = ?
+Inv-loop starts chosen directions₀ k₀ directions k = Writing starts chosen k directions
 
 abbrev μ-loop : tie.MeasureT-loop
-μ-loop starts chosen directions₀ k₀ directions k = ?
+μ-loop starts chosen directions₀ k₀ directions k = k
 
--- src/lib.rt:115:5
 wipe-requires : tie.Need-wipe-requires Inv-loop μ-loop
-wipe-requires c κs = ?
+wipe-requires c κs = search needs
 
--- src/lib.rt:117:5
 loop-holds : tie.Need-loop-holds Inv-loop μ-loop
-loop-holds c = ?
+loop-holds c = write-start _ _ _ (c .before .before .wipe .ensures)
 
--- src/lib.rt:118:9
 sub-k : tie.Need-sub-k Inv-loop μ-loop
-sub-k c = ?
+sub-k c = omega arith
 
--- src/lib.rt:119:42
 shared-slice-read-directions : tie.Need-shared-slice-read-directions Inv-loop μ-loop
-shared-slice-read-directions c = ?
+shared-slice-read-directions c = omega arith
 
--- src/lib.rt:119:20
 mul-directions : tie.Need-mul-directions Inv-loop μ-loop
-mul-directions c = ?
+mul-directions c = omega arith
 
--- src/lib.rt:119:20
 shared-slice-read-directions-2 : tie.Need-shared-slice-read-directions-2 Inv-loop μ-loop
-shared-slice-read-directions-2 c = ?
+shared-slice-read-directions-2 c = omega arith
 
--- src/lib.rt:119:20
 cast-directions : tie.Need-cast-directions Inv-loop μ-loop
-cast-directions c = ?
+cast-directions c = omega (arith, c .shared-slice-known4 .given (c .before .before .before .loop .k - 1))
 
--- src/lib.rt:119:9
 slice-write-directions : tie.Need-slice-write-directions Inv-loop μ-loop
-slice-write-directions c = ?
+slice-write-directions c = let l = c .before .before .before in omega (arith, l .before .before .before .before .before .before .before .before .pre .2 (l .loop .k - 1) (omega arith))
 
--- src/lib.rt:117:5
 loop-less : tie.Need-loop-less Inv-loop μ-loop
-loop-less c = ?
+loop-less c = omega arith
 
--- src/lib.rt:117:5
 loop-again : tie.Need-loop-again Inv-loop μ-loop
-loop-again c = ?
+loop-again c = let l = c .before .before .before in write-step _ _ (l .loop .inv) (c .before .before .loop-test .taken) (l .before .before .before .before .before .before .before .before .pre .1) (l .before .before .before .before .before .before .before .before .pre .2 (l .loop .k - 1) (omega arith))
 
--- src/lib.rt:110:1
 same-length : tie.Need-same-length Inv-loop μ-loop
-same-length c = ?
+same-length c = let l = c .before in omega (arith, l .loop .inv .long)
 
--- src/lib.rt:110:1
 returns : tie.Need-returns Inv-loop μ-loop
-returns c = ?
+returns c = write-end _ _ (c .before .loop .inv) (c .loop-test .left)
 
 pub write-plan-spec : {M : Type 1} → statement M
 write-plan-spec =
