@@ -6,3 +6,4 @@ pub mod Rest
 pub mod Looping
 pub mod Testing
 pub mod Writing
+pub mod Planning
