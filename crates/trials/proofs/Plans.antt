@@ -1,7 +1,8 @@
 -- For any test of a path and any test of two paths: the directions that faults keep in turn are those whose paths are all open and all clear
--- of each other; and other directions have a path or a pair that says why not. Assumes nothing.
+-- of each other, and other directions have a path or a pair that says why not. So the trial rule finds the first of the former, or shows that
+-- all directions are of the latter. Assumes nothing.
 use Prim.Native.Nat.{ℕ, zero, suc, _≤_, _<_}
-use mathlib.Core.Path.{_≡_, refl, ap, sym, _∙_}
+use mathlib.Core.Path.{_≡_, refl, ap, sym, subst, _∙_}
 use mathlib.Core.Bool.{Bool, true, false, _&&_, true≢false}
 use mathlib.Core.Logic.{_⊎_, inl, inr, ⊎-elim}
 use mathlib.Core.List.{List, [], _∷_}
@@ -10,9 +11,10 @@ use native.Mathlib.Omega.{arith}
 use lib.ListN.{length, getD}
 use Rattle.array.proofs.Bools.{and-true, and-both, by-bool}
 use Rattle.plans.specs.Faults.{fault}
+use Rattle.plans.specs.Plan.{Not-after}
 use Rattle.plans.specs.declared.Fault.{Fault}
-use Rattle.trials.specs.Trials.{Search, found, exhausted, in-order, trials, clear-of, keeps}
-use Rattle.trials.proofs.Laws.{In, Kept, answers}
+use Rattle.trials.specs.Trials.{Search, found, exhausted, in-order, trials, count, clear-of, keeps}
+use Rattle.trials.proofs.Laws.{In, Kept, Answers, answers}
 
 -- one of the four directions
 abbrev pub Straight : ℕ → Type 0
@@ -155,3 +157,36 @@ module _ (opens : ℕ → ℕ → Bool) (clear : ℕ → ℕ → ℕ → ℕ →
       (kept-or-wrong ps xs (fault p d ∷ kept) (chosen-less p d ps xs h)))
       (λ a. inr (clash-before 0 (omega arith) a)))
       (λ o. inr (shut 0 (omega arith) o))
+
+  sound-not-wrong : (ps xs : List ℕ) (kept : List Fault) → Sound kept ps xs → Wrong kept ps xs → ⊥
+  sound-not-wrong ps xs kept s (shut k h e) = true≢false (sym (s .open-at k h) ∙ e)
+  sound-not-wrong ps xs kept s (clash-before k h e) = true≢false (sym (s .apart-at k h) ∙ e)
+  sound-not-wrong ps xs kept s (clash i j l h e) = true≢false (sym (s .clear-at i j l h) ∙ e)
+
+  -- the trial rule over faults at any positions
+  module _ (ps : List ℕ) where
+    abbrev ended : Search
+    ended = trials (keeps opens clear) [] ps
+
+    said : (s : Search) → ended ≡ s → Answers (keeps opens clear) [] ps s
+    said s e = subst (Answers (keeps opens clear) [] ps) e (answers (keeps opens clear) ps [])
+
+    -- what is found is sound, and nothing sound comes before it
+    pub found-first : (k : ℕ) (xs : List ℕ) → ended ≡ found k xs
+        → Sound [] ps xs × ((ys : List ℕ) → Sound [] ps ys → Not-after xs ys)
+    found-first k xs e =
+        let h = said (found k xs) e in
+        (kept-sound ps xs [] (h .0), λ ys s. h .1 ys (sound-kept ps ys [] s))
+
+    -- where nothing is found, all directions are wrong
+    pub exhausted-wrong : (k : ℕ) → ended ≡ exhausted k → (xs : List ℕ) → Chosen ps xs → Wrong [] ps xs
+    exhausted-wrong k e xs h = ⊎-elim (λ v. absurd (said (exhausted k) e xs v)) (λ w. w) (kept-or-wrong ps xs [] h)
+
+    -- and where all directions are wrong, nothing is found
+    pub wrong-exhausted : ((xs : List ℕ) → Chosen ps xs → Wrong [] ps xs) → ended ≡ exhausted (count ended)
+    wrong-exhausted w = by ended refl
+      where
+        by : (s : Search) → ended ≡ s → s ≡ exhausted (count s)
+        by (found k xs) e =
+            let s = found-first k xs e .0 in absurd (sound-not-wrong ps xs [] s (w xs (s .chosen)))
+        by (exhausted k) e = refl

@@ -15,8 +15,8 @@ use Rattle.plans.specs.Plan.{start-of, Choice, Plan, Blocked, not-open, meeting
 use Rattle.trials.specs.Trials.{Search, found, exhausted, trials, keeps, clear-of, count}
 use Rattle.trials.specs.Search.{clear, searched, planned, T}
 use Rattle.trials.specs.Theorems.{Trial-rule}
-use Rattle.trials.proofs.Laws.{Kept, Answers, answers, trials-bound}
-use Rattle.trials.proofs.Plans.{Chosen, Sound, Wrong, shut, clash-before, clash, kept-sound, sound-kept, kept-or-wrong}
+use Rattle.trials.proofs.Laws.{trials-bound}
+use Rattle.trials.proofs.Plans.{Sound, Wrong, shut, clash-before, clash, found-first, exhausted-wrong, wrong-exhausted}
 
 -- two paths are clear where they neither meet nor nearly miss
 module _ (n m p d q e : ℕ) where
@@ -42,9 +42,24 @@ module _ (n m p d q e : ℕ) where
       by false true h = inr refl
       by false false h = absurd (true≢false h)
 
+  meets-not : meet n m p d q e ≡ true → clear n m p d q e ≡ false
+  unfolding clear
+  meets-not h = rw h
+
+  near-not : near-miss p d q e ≡ true → clear n m p d q e ≡ false
+  unfolding clear
+  near-not h = by (meet n m p d q e) (near-miss p d q e) h
+    where
+      by : (a b : Bool) → b ≡ true → (not a && not b) ≡ false
+      by true b h = refl
+      by false b h = rw h
+
 module _ (n m : ℕ) (grid : List ℕ) where
   abbrev Sound-at : List ℕ → Type 0
   Sound-at xs = Sound (is-open n m grid) (clear n m) [] (faults n m grid) xs
+
+  abbrev Wrong-at : List ℕ → Type 0
+  Wrong-at xs = Wrong (is-open n m grid) (clear n m) [] (faults n m grid) xs
 
   plan-sound : (xs : List ℕ) → Plan n m grid xs → Sound-at xs
   unfolding clear-of
@@ -65,46 +80,35 @@ module _ (n m : ℕ) (grid : List ℕ) where
         no-near-miss = λ i j a b. clear-both n m _ _ _ _ (s .clear-at i j a b) .1;
       }
 
-  wrong-blocked : (xs : List ℕ) → Wrong (is-open n m grid) (clear n m) [] (faults n m grid) xs → Blocked n m grid xs
+  wrong-blocked : (xs : List ℕ) → Wrong-at xs → Blocked n m grid xs
   unfolding clear-of
   wrong-blocked xs (shut k l e) = not-open k l e
   wrong-blocked xs (clash-before k l e) = absurd (true≢false e)
   wrong-blocked xs (clash i j a b e) = ⊎-elim (λ q. meeting i j a b q) (λ q. near i j a b q) (clear-not n m _ _ _ _ e)
 
-  blocked-no-plan : (xs : List ℕ) → Blocked n m grid xs → Plan n m grid xs → ⊥
-  blocked-no-plan xs (not-open k l e) h = true≢false (sym (h .open-path k l) ∙ e)
-  blocked-no-plan xs (meeting i j a b e) h = true≢false (sym e ∙ h .no-meeting i j a b)
-  blocked-no-plan xs (near i j a b e) h = true≢false (sym e ∙ h .no-near-miss i j a b)
-
-  abbrev Kept-at : List ℕ → Type 0
-  Kept-at xs = Kept (keeps (is-open n m grid) (clear n m)) [] (faults n m grid) xs
-
-  -- what the trials of the map say, by their end
-  said : (s : Search) → planned n m grid ≡ s → Answers (keeps (is-open n m grid) (clear n m)) [] (faults n m grid) s
-  unfolding planned searched
-  said s e = subst (Answers (keeps (is-open n m grid) (clear n m)) [] (faults n m grid)) e (answers _ (faults n m grid) [])
+  blocked-wrong : (xs : List ℕ) → Blocked n m grid xs → Wrong-at xs
+  blocked-wrong xs (not-open k l e) = shut k l e
+  blocked-wrong xs (meeting i j a b e) = clash i j a b (meets-not n m _ _ _ _ e)
+  blocked-wrong xs (near i j a b e) = clash i j a b (near-not n m _ _ _ _ e)
 
   first-of-plans : (k : ℕ) (xs : List ℕ) → planned n m grid ≡ found k xs → First-plan n m grid xs
+  unfolding planned searched
   first-of-plans k xs e =
-      let h = said (found k xs) e in
-      record {
-        is-plan = sound-plan xs (kept-sound _ _ (faults n m grid) xs [] (h .0));
-        none-before = λ ys p. h .1 ys (sound-kept _ _ (faults n m grid) ys [] (plan-sound ys p));
-      }
+      let h = found-first (is-open n m grid) (clear n m) (faults n m grid) k xs e in
+      record { is-plan = sound-plan xs (h .0); none-before = λ ys p. h .1 ys (plan-sound ys p) }
 
   none-found : (k : ℕ) → planned n m grid ≡ exhausted k → Every-choice-blocked n m grid
+  unfolding planned searched
   none-found k e xs h =
-      ⊎-elim (λ v. absurd (said (exhausted k) e xs v)) (wrong-blocked xs)
-      (kept-or-wrong _ _ (faults n m grid) xs [] (record { one-each = h .one-each; straight = h .straight }))
+      wrong-blocked xs
+      (exhausted-wrong (is-open n m grid) (clear n m) (faults n m grid) k e xs
+      (record { one-each = h .one-each; straight = h .straight }))
 
   none-there : Every-choice-blocked n m grid → planned n m grid ≡ exhausted (T n m grid)
-  unfolding T
-  none-there b = by (planned n m grid) refl
-    where
-      by : (s : Search) → planned n m grid ≡ s → s ≡ exhausted (count s)
-      by (found k xs) e =
-          let p = first-of-plans k xs e .is-plan in absurd (blocked-no-plan xs (b xs (p .one-path)) p)
-      by (exhausted k) e = refl
+  unfolding T planned searched
+  none-there b =
+      wrong-exhausted (is-open n m grid) (clear n m) (faults n m grid)
+      (λ xs h. blocked-wrong xs (b xs (record { one-each = h .one-each; straight = h .straight })))
 
   bound : 3 * T n m grid + 4 ≤ 4 ^ (length (faults n m grid) + 1)
   unfolding T planned searched
