@@ -3,7 +3,7 @@
 use Prim.Native.Nat.{ℕ, _+_}
 use mathlib.Core.Path.{_≡_, refl}
 use mathlib.Core.Bool.{Bool, true, false}
-use mathlib.Core.List.{List, [], _∷_}
+use mathlib.Core.List.{List, _∷_}
 use Rattle.trials.specs.Trials.{Search, found, exhausted, more, offer}
 
 -- by whether the trial of d is kept, how the faults after it end, and how the directions after d end

@@ -1,18 +1,16 @@
 -- The trial rule: what is found is the first of all plans, and nothing is found exactly where every choice is blocked; T's bound; no fault.
 -- Assumes nothing.
-use Prim.Native.Nat.{ℕ, suc, _+_, _*_, _^_, _≤_, _<_}
-use mathlib.Core.Path.{_≡_, refl, ap, sym, subst, _∙_}
+use Prim.Native.Nat.{ℕ, _+_, _*_, _^_, _≤_}
+use mathlib.Core.Path.{_≡_, refl, sym}
 use mathlib.Core.Bool.{Bool, true, false, not, _&&_, true≢false}
 use mathlib.Core.Logic.{_⊎_, inl, inr, ⊎-elim}
 use mathlib.Core.List.{List, []}
 use native.Mathlib.Numerals.{add-one}
-use native.Mathlib.Omega.{arith}
-use lib.ListN.{length, getD}
-use Rattle.array.proofs.Bools.{and-true, by-bool}
+use lib.ListN.{length}
 use Rattle.paths.specs.Path.{is-open, meet, near-miss}
 use Rattle.plans.specs.Faults.{faults}
-use Rattle.plans.specs.Plan.{start-of, Choice, Plan, Blocked, not-open, meeting, near, Every-choice-blocked, Not-after, First-plan}
-use Rattle.trials.specs.Trials.{Search, found, exhausted, trials, keeps, clear-of, count}
+use Rattle.plans.specs.Plan.{Plan, Blocked, not-open, meeting, near, Every-choice-blocked, First-plan}
+use Rattle.trials.specs.Trials.{found, exhausted, trials, keeps, clear-of}
 use Rattle.trials.specs.Search.{clear, searched, planned, T}
 use Rattle.trials.specs.Theorems.{Trial-rule}
 use Rattle.trials.proofs.Laws.{trials-bound}

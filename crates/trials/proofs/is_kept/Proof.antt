@@ -25,7 +25,9 @@ cast-p : tie.Need-cast-p Inv-loop μ-loop
 cast-p c = omega (arith, c .shared-slice-known4 .given (c .before .before .before .before .args .k))
 
 is-open-requires : tie.Need-is-open-requires Inv-loop μ-loop
-is-open-requires c κs = let s = c .before .before .before .before in (start-at (s .pre .0) (s .args .k) (s .args .d) (s .pre .1) (s .pre .3) (s .pre .4), s .pre .0 .marks)
+is-open-requires c κs =
+    let s = c .before .before .before .before in
+    (start-at (s .pre .0) (s .args .k) (s .args .d) (s .pre .1) (s .pre .3) (s .pre .4), s .pre .0 .marks)
 
 returns : tie.Need-returns Inv-loop μ-loop
 returns c = test-shut _ _ _ _ _ _ (c .before .is-open .result) (c .before .is-open .ensures) (c .if1 .taken)
@@ -49,21 +51,31 @@ shared-slice-read-is-clear-2 : tie.Need-shared-slice-read-is-clear-2 Inv-loop μ
 shared-slice-read-is-clear-2 c = omega arith
 
 is-clear-requires : tie.Need-is-clear-requires Inv-loop μ-loop
-is-clear-requires c κs = let l = c .before .before .before in let s = l .before .before .before .before .before .before .before in let j = l .loop .j - 1 in let low : j < l .loop .j = omega arith in let w = l .loop .inv .within in
-  (start-at (s .pre .0) j (getD (s .args .chosen .now) j 0) (omega arith) (s .pre .2 j (omega arith) .0) (s .pre .2 j (omega arith) .1),
-  start-at (s .pre .0) (s .args .k) (s .args .d) (s .pre .1) (s .pre .3) (s .pre .4))
+is-clear-requires c κs =
+    let l = c .before .before .before in
+    let s = l .before .before .before .before .before .before .before in
+    let j = l .loop .j - 1 in
+    let low : j < l .loop .j = omega arith in
+    let within = l .loop .inv .within in
+    let e = s .pre .2 j (omega arith) in
+    (
+      start-at (s .pre .0) j (getD (s .args .chosen .now) j 0) (omega arith) (e .0) (e .1),
+      start-at (s .pre .0) (s .args .k) (s .args .d) (s .pre .1) (s .pre .3) (s .pre .4),
+    )
 
 returns-2 : tie.Need-returns-2 Inv-loop μ-loop
-returns-2 c = test-clash _ _ _ _ _ _ (c .before .before .before .before .before .loop .inv) (c .before .before .before .before .loop-test .taken) (c .before .is-clear .result) (c .before .is-clear .ensures) (c .if2 .taken)
+returns-2 c =
+    test-clash _ _ _ _ _ _ (c .before .before .before .before .before .loop .inv) (omega arith) (c .before .is-clear .result) (c .before .is-clear .ensures) (c .if2 .taken)
 
 loop-less : tie.Need-loop-less Inv-loop μ-loop
 loop-less c = omega arith
 
 loop-again : tie.Need-loop-again Inv-loop μ-loop
-loop-again c = test-next _ _ _ _ _ _ (c .before .before .before .before .before .loop .inv) (c .before .before .before .before .loop-test .taken) (c .before .is-clear .result) (c .before .is-clear .ensures) (c .if2 .left)
+loop-again c =
+    test-next _ _ _ _ _ _ (c .before .before .before .before .before .loop .inv) (omega arith) (c .before .is-clear .result) (c .before .is-clear .ensures) (c .if2 .left)
 
 returns-3 : tie.Need-returns-3 Inv-loop μ-loop
-returns-3 c = test-end _ _ _ _ _ _ _ (c .before .loop .inv) (c .loop-test .left)
+returns-3 c = test-end _ _ _ _ _ _ _ (c .before .loop .inv) (omega arith)
 
 pub is-kept-spec : {M : Type 1} → statement M
 is-kept-spec =

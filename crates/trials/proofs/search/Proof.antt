@@ -27,7 +27,7 @@ same-length c = c .before .before .before .loop .inv .same
 
 returns : tie.Need-returns Inv-loop μ-loop
 unfolding searched
-returns c = over _ _ _ _ (c .before .before .before .loop .inv) (c .before .before .loop-test .taken) (c .before .if1 .taken) (c .if2 .taken) _
+returns c = over _ _ _ _ (c .before .before .before .loop .inv) (omega arith) (omega arith) (omega arith) _
 
 sub-k : tie.Need-sub-k Inv-loop μ-loop
 sub-k c = omega arith
@@ -42,21 +42,23 @@ loop-less : tie.Need-loop-less Inv-loop μ-loop
 loop-less c = omega arith
 
 loop-again : tie.Need-loop-again Inv-loop μ-loop
-loop-again c = up _ _ _ _ (c .before .before .before .before .loop .inv) (c .before .before .before .loop-test .taken) (c .before .before .if1 .taken) (c .before .if2 .left)
+loop-again c = up _ _ _ _ (c .before .before .before .before .loop .inv) (omega arith) (omega arith) (c .before .if2 .left)
 
 same-length-2 : tie.Need-same-length-2 Inv-loop μ-loop
 same-length-2 c = c .before .before .before .loop .inv .same
 
 returns-2 : tie.Need-returns-2 Inv-loop μ-loop
 unfolding searched
-returns-2 c = out _ _ _ _ (c .before .before .before .loop .inv) (c .before .before .loop-test .taken) (c .before .if1 .left) (c .if3 .taken) _
+returns-2 c = out _ _ _ _ (c .before .before .before .loop .inv) (omega arith) (omega arith) (omega arith) _
 
 add-spent : tie.Need-add-spent Inv-loop μ-loop
 add-spent c = omega arith
 
 is-kept-requires : tie.Need-is-kept-requires Inv-loop μ-loop
-is-kept-requires c κs = let v = c .before .before .before .before .loop .inv in
-  (still-searchable (c .before .before .before .before .before .before .before .before .pre) _ (v .same), c .before .before .before .loop-test .taken, v .kept, v .low, omega arith)
+is-kept-requires c κs =
+    let l = c .before .before .before .before in
+    let v = l .loop .inv in
+    (still-searchable (l .before .before .before .before .pre) _ (v .same), omega arith, v .kept, v .low, omega arith)
 
 slice-write-chosen : tie.Need-slice-write-chosen Inv-loop μ-loop
 slice-write-chosen c = omega arith
@@ -68,7 +70,9 @@ loop-less-2 : tie.Need-loop-less-2 Inv-loop μ-loop
 loop-less-2 c = omega arith
 
 loop-again-2 : tie.Need-loop-again-2 Inv-loop μ-loop
-loop-again-2 c = yes _ _ _ _ (c .before .before .before .before .before .before .loop .inv) (c .before .before .before .before .before .loop-test .taken) (c .before .before .before .before .if1 .left) (c .before .before .before .if3 .left) (sym (c .before .is-kept .ensures) ∙ c .if4 .taken)
+loop-again-2 c =
+    yes _ _ _ _ (c .before .before .before .before .before .before .loop .inv) (omega arith) (omega arith) (c .before .before .before .if3 .left)
+    (sym (c .before .is-kept .ensures) ∙ c .if4 .taken)
 
 add-d-2 : tie.Need-add-d-2 Inv-loop μ-loop
 add-d-2 c = omega arith
@@ -77,14 +81,16 @@ loop-less-3 : tie.Need-loop-less-3 Inv-loop μ-loop
 loop-less-3 c = omega arith
 
 loop-again-3 : tie.Need-loop-again-3 Inv-loop μ-loop
-loop-again-3 c = no _ _ _ _ (c .before .before .before .before .before .before .loop .inv) (c .before .before .before .before .before .loop-test .taken) (c .before .before .before .before .if1 .left) (c .before .before .before .if3 .left) (sym (c .before .is-kept .ensures) ∙ c .if4 .left)
+loop-again-3 c =
+    no _ _ _ _ (c .before .before .before .before .before .before .loop .inv) (omega arith) (omega arith) (c .before .before .before .if3 .left)
+    (sym (c .before .is-kept .ensures) ∙ c .if4 .left)
 
 same-length-3 : tie.Need-same-length-3 Inv-loop μ-loop
 same-length-3 c = c .before .loop .inv .same
 
 returns-3 : tie.Need-returns-3 Inv-loop μ-loop
 unfolding searched
-returns-3 c = done _ _ _ _ (c .before .loop .inv) (c .loop-test .left)
+returns-3 c = done _ _ _ _ (c .before .loop .inv) (omega arith)
 
 pub search-spec : {M : Type 1} → statement M
 search-spec =

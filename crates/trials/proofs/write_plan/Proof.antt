@@ -35,19 +35,24 @@ cast-directions : tie.Need-cast-directions Inv-loop μ-loop
 cast-directions c = omega (arith, c .shared-slice-known4 .given (c .before .before .before .loop .k - 1))
 
 slice-write-directions : tie.Need-slice-write-directions Inv-loop μ-loop
-slice-write-directions c = let l = c .before .before .before in omega (arith, l .before .before .before .before .before .before .before .before .pre .2 (l .loop .k - 1) (omega arith))
+slice-write-directions c =
+    let l = c .before .before .before in
+    omega (arith, l .before .before .before .before .before .before .before .before .pre .2 (l .loop .k - 1) (omega arith))
 
 loop-less : tie.Need-loop-less Inv-loop μ-loop
 loop-less c = omega arith
 
 loop-again : tie.Need-loop-again Inv-loop μ-loop
-loop-again c = let l = c .before .before .before in write-step _ _ (l .loop .inv) (c .before .before .loop-test .taken) (l .before .before .before .before .before .before .before .before .pre .1) (l .before .before .before .before .before .before .before .before .pre .2 (l .loop .k - 1) (omega arith))
+loop-again c =
+    let l = c .before .before .before in
+    let s = l .before .before .before .before .before .before .before .before in
+    write-step _ _ (l .loop .inv) (omega arith) (s .pre .1) (s .pre .2 (l .loop .k - 1) (omega arith))
 
 same-length : tie.Need-same-length Inv-loop μ-loop
 same-length c = let l = c .before in omega (arith, l .loop .inv .long)
 
 returns : tie.Need-returns Inv-loop μ-loop
-returns c = write-end _ _ (c .before .loop .inv) (c .loop-test .left)
+returns c = write-end _ _ (c .before .loop .inv) (omega arith)
 
 pub write-plan-spec : {M : Type 1} → statement M
 write-plan-spec =
