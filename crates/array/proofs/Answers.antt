@@ -5,7 +5,6 @@ use mathlib.Core.Path.{_≡_, refl, ap}
 use native.Mathlib.Omega.{arith}
 use Rattle.array.specs.Tests.{told, refusal, refuses-as, Loses-nothing}
 use Rattle.array.specs.declared.Refusal.{Refusal}
-use Rattle.array.specs.declared.Verdict.{Verdict}
 use Rattle.array.specs.declared.Verdict.the-variants.{Accepted, Refused}
 
 same-refusal : (k l p p′ q q′ : ℕ) → k ≡ l → p ≡ p′ → q ≡ q′ → refusal k p q ≡ refusal l p′ q′

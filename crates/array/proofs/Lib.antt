@@ -4,5 +4,7 @@ pub mod Verdicts
 pub mod Scans
 pub mod Fills
 pub mod Filters
+pub mod Positions
 pub mod Answers
 pub mod Marks
+pub mod Maps

@@ -2,13 +2,13 @@
 -- Assumes nothing.
 use mathlib.Core.Path.{_≡_, refl, sym, ap, _∙_}
 use mathlib.Core.Bool.{Bool, true, false}
-use mathlib.Core.List.{List, [], _∷_}
+use mathlib.Core.List.{List}
 use Prim.Native.Nat.{ℕ, zero, suc, _+_, _-_, _<_, _≤_}
 use native.Mathlib.Numerals.{add-one}
 use native.Mathlib.Omega.{arith}
 use lib.ListN.{length, getD, drop, drop-of-length-le}
 use lib.Seq.{drop-cons}
-use Rattle.array.specs.Tests.{or-else, refuse, refuse-if, first-of, first-along, first-in}
+use Rattle.array.specs.Tests.{or-else, refuse, refuse-if, first-of, first-along}
 use Rattle.array.specs.declared.Refusal.{Refusal}
 use Rattle.array.specs.declared.Verdict.{Verdict}
 use Rattle.array.specs.declared.Verdict.the-variants.{Accepted, Refused}
@@ -59,30 +59,35 @@ module _ {f rest : ℕ → Verdict} {n i : ℕ} {v : Verdict} (s : Seeking f res
 
 -- Nothing is refused exactly when no index is.
 module _ {f rest : ℕ → Verdict} {n : ℕ} (s : Scan f rest n) where
-  accepted-from : (d i k : ℕ) → i + d ≡ k → k < n → rest i ≡ Accepted → f k ≡ Accepted
-  accepted-from zero i k e l h =
+  each-after : (d i k : ℕ) → i + d ≡ k → k < n → rest i ≡ Accepted → f k ≡ Accepted
+  each-after zero i k e l h =
       let x = both-accepted (f i) (rest (i + 1)) (sym (s .turn i (omega arith)) ∙ h) in
       let y : k ≡ i = omega arith in
       ap f y ∙ x .0
-  accepted-from (suc d) i k e l h =
+  each-after (suc d) i k e l h =
       let x = both-accepted (f i) (rest (i + 1)) (sym (s .turn i (omega arith)) ∙ h) in
-      accepted-from d (i + 1) k (omega arith) l (x .1)
+      each-after d (i + 1) k (omega arith) l (x .1)
+
+  pub scan-each-from : (i : ℕ) → rest i ≡ Accepted → (k : ℕ) → i ≤ k → k < n → f k ≡ Accepted
+  scan-each-from i h k g l = each-after (k - i) i k (omega arith) l h
 
   pub scan-each : rest 0 ≡ Accepted → (k : ℕ) → k < n → f k ≡ Accepted
-  scan-each h k l = accepted-from k 0 k (omega arith) l h
+  scan-each h k l = scan-each-from 0 h k (omega arith) l
 
-  all-from : (d i : ℕ) → n ≤ i + d → ((k : ℕ) → i ≤ k → k < n → f k ≡ Accepted) → rest i ≡ Accepted
-  all-from zero i e h = s .end i (omega arith)
-  all-from (suc d) i e h =
+  all-after : (d i : ℕ) → n ≤ i + d → ((k : ℕ) → i ≤ k → k < n → f k ≡ Accepted) → rest i ≡ Accepted
+  all-after zero i e h = s .end i (omega arith)
+  all-after (suc d) i e h =
       by-lt i n
       (λ l.
       s .turn i l
-      ∙ accept-both (h i (omega arith) l)
-      (all-from d (i + 1) (omega arith) (λ k a b. h k (omega arith) b)))
+      ∙ accept-both (h i (omega arith) l) (all-after d (i + 1) (omega arith) (λ k a b. h k (omega arith) b)))
       (λ l. s .end i l)
 
+  pub scan-all-from : (i : ℕ) → ((k : ℕ) → i ≤ k → k < n → f k ≡ Accepted) → rest i ≡ Accepted
+  scan-all-from i h = all-after n i (omega arith) h
+
   pub scan-all : ((k : ℕ) → k < n → f k ≡ Accepted) → rest 0 ≡ Accepted
-  scan-all h = all-from n 0 (omega arith) (λ k i l. h k l)
+  scan-all h = scan-all-from 0 (λ k i l. h k l)
 
 -- Along a buffer, by position and element.
 abbrev pub element-test : (ℕ → ℕ → Verdict) → List ℕ → ℕ → Verdict

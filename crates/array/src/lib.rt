@@ -2,8 +2,7 @@
 ghost use mathlib.Core.Path.{_≡_};
 ghost use mathlib.Core.Bool.{true};
 ghost use Prim.Native.Nat.{_≤_, _<_};
-ghost use mathlib.Core.List.{_++_};
-ghost use lib.ListN.{length, drop};
+ghost use lib.ListN.{length};
 ghost use Rattle.array.specs.Place.{size, inner-at, corner-at, processor-at, inner, processor};
 ghost use Rattle.array.specs.Map.{allowed, marks-test, map-tests};
 

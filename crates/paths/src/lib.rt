@@ -4,7 +4,7 @@ use array::Verdict;
 ghost use mathlib.Core.Path.{_≡_};
 ghost use Prim.Native.Nat.{_≤_, _<_};
 ghost use lib.ListN.{length};
-ghost use Rattle.paths.specs.Path.{by-direction, ahead, path-length, is-open, south-north, east-west, near-miss, meet, pair-test, Start};
+ghost use Rattle.paths.specs.Path.{by-direction, ahead, path-length, is-open, near-miss, meet, pair-test, Start};
 ghost use Rattle.paths.specs.Extent.{overlap};
 
 fn choose(d: u8, south: usize, north: usize, east: usize, west: usize, other: usize) -> usize

@@ -32,7 +32,7 @@ abbrev pub open-test : ℕ → ℕ → List ℕ → Fault → Verdict
 open-test n m grid f = refuse-if (not (is-open n m grid (f .position) (f .direction))) 5 (f .position) 0
 
 -- in row order
-unfoldable pub opens-test : ℕ → ℕ → List ℕ → List Fault → Verdict
+abbrev pub opens-test : ℕ → ℕ → List ℕ → List Fault → Verdict
 opens-test n m grid fs = first-of (open-test n m grid) fs
 
 -- 6 and 7 of two faults

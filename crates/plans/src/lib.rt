@@ -1,7 +1,217 @@
-// Plans.
+// Plans: the inner faults in row order, and the plan check.
+use array::Refusal;
+use array::Verdict;
+ghost use mathlib.Core.Path.{_≡_};
+ghost use mathlib.Core.Bool.{true};
+ghost use mathlib.Core.List.{_++_};
+ghost use Prim.Native.Nat.{ℕ, _<_};
+ghost use lib.ListN.{length, getD, drop};
+ghost use Rattle.array.specs.Map.{inner-faulty};
+ghost use Rattle.array.specs.Tests.{told};
+ghost use Rattle.plans.specs.Faults.{faults, directions-at, fault, paired, directed-faults};
+ghost use Rattle.plans.specs.Check.{wrong-direction, directions-test, open-test, opens-test, clash-test, pairs-test, paths-test, plan-tests, check-plan};
+ghost use Rattle.plans.specs.Inner.{Starts, Directed};
 
 // An inner fault with its position and the direction of its path.
 pub struct Fault {
     pub position: usize,
     pub direction: u8,
+}
+
+// check_plan is for callers; the other functions are its inner parts and have a `requires`.
+
+fn wide(x: u16) -> usize
+    ensures { λ r. ⌜ r ≡ x ⌝ }
+{
+    x as usize
+}
+
+// Writes the inner faults in row order to the front of `out`, and returns their number.
+pub fn list_faults(n: usize, m: usize, grid: &[u8], out: &mut [u16]) -> usize
+    requires { ⌜ (length (now grid) ≡ 1024) × (length (now out) ≡ 1024) ⌝ }
+    ensures { λ r. ⌜ (r ≡ length (faults n m (now (grid .entry)))) × (now (out .exit) ≡ faults n m (now (grid .entry)) ++ drop r (now (out .entry))) ⌝ }
+{
+    let mut count = 0;
+    for p in 0..1024 {
+        if array::is_inner(n, m, p) & (grid[p] == 1) {
+            out[count] = p as u16;
+            count += 1;
+        }
+    }
+    count
+}
+
+fn is_wrong(n: usize, m: usize, p: usize, mark: u8, d: u8) -> bool
+    ensures { λ r. ⌜ r ≡ wrong-direction (inner-faulty n m p mark) d ⌝ }
+{
+    let fault = array::is_inner(n, m, p) & (mark == 1);
+    ((4 < d) | (fault & (d == 0))) | (!fault & !(d == 0))
+}
+
+// Test 4.
+fn check_directions(n: usize, m: usize, grid: &[u8], directions: &[u8]) -> Verdict
+    requires { ⌜ (length (now grid) ≡ 1024) × (length (now directions) ≡ 1024) ⌝ }
+    ensures { λ r. ⌜ r ≡ directions-test n m (now (grid .entry)) (now (directions .entry)) ⌝ }
+{
+    for p in 0..1024 {
+        if is_wrong(n, m, p, grid[p], directions[p]) {
+            return Verdict::Refused(Refusal {
+                number: 4,
+                place: p,
+                second: 0,
+            });
+        }
+    }
+    Verdict::Accepted
+}
+
+// Writes the direction at each of these positions.
+fn take_directions(directions: &[u8], starts: &[u16], out: &mut [u8])
+    requires { ⌜ (length (now out) ≡ length (now starts)) × ((k : ℕ) → k < length (now starts) → getD (now starts) k 0 < length (now directions)) ⌝ }
+    ensures { λ _. ⌜ now (out .exit) ≡ directions-at (now (directions .entry)) (now (starts .entry)) ⌝ }
+{
+    let count = starts.len();
+    for k in 0..count {
+        out[k] = directions[wide(starts[k])];
+    }
+}
+
+// Test 5 of the k-th fault. Fault k starts at starts[k] and has direction ds[k].
+fn check_open_at(n: usize, m: usize, grid: &[u8], starts: &[u16], ds: &[u8], k: usize) -> Verdict
+    requires { ⌜ Starts n m (now starts) (now ds) × (k < length (now starts)) × (length (now grid) ≡ 1024) ⌝ }
+    ensures { λ r. ⌜ r ≡ open-test n m (now (grid .entry)) (fault (getD (now (starts .entry)) k 0) (getD (now (ds .entry)) k 0)) ⌝ }
+{
+    let p = wide(starts[k]);
+    if !paths::is_open(n, m, grid, p, ds[k]) {
+        return Verdict::Refused(Refusal {
+            number: 5,
+            place: p,
+            second: 0,
+        });
+    }
+    Verdict::Accepted
+}
+
+// Test 5.
+fn check_opens(n: usize, m: usize, grid: &[u8], starts: &[u16], ds: &[u8]) -> Verdict
+    requires { ⌜ Starts n m (now starts) (now ds) × (length (now grid) ≡ 1024) ⌝ }
+    ensures { λ r. ⌜ r ≡ opens-test n m (now (grid .entry)) (paired (now (starts .entry)) (now (ds .entry))) ⌝ }
+{
+    let count = starts.len();
+    for k in 0..count {
+        let v = check_open_at(n, m, grid, starts, ds, k);
+        if let Verdict::Refused(_) = v {
+            return v;
+        }
+    }
+    Verdict::Accepted
+}
+
+// Tests 6 and 7 of the i-th and the j-th fault.
+fn check_pair_at(n: usize, m: usize, starts: &[u16], ds: &[u8], i: usize, j: usize) -> Verdict
+    requires { ⌜ Starts n m (now starts) (now ds) × (i < length (now starts)) × (j < length (now starts)) ⌝ }
+    ensures { λ r. ⌜ r ≡ clash-test n m (fault (getD (now (starts .entry)) i 0) (getD (now (ds .entry)) i 0)) (fault (getD (now (starts .entry)) j 0) (getD (now (ds .entry)) j 0)) ⌝ }
+{
+    paths::check_pair(n, m, wide(starts[i]), ds[i], wide(starts[j]), ds[j])
+}
+
+// Tests 6 and 7, pair by pair, left at the first pair that meets or is a near-miss.
+fn check_pairs(n: usize, m: usize, starts: &[u16], ds: &[u8]) -> Verdict
+    requires { ⌜ Starts n m (now starts) (now ds) ⌝ }
+    ensures { λ r. ⌜ r ≡ pairs-test n m (paired (now (starts .entry)) (now (ds .entry))) ⌝ }
+{
+    let count = starts.len();
+    let mut found = Verdict::Accepted;
+    'pairs: for i in 0..count {
+        for j in i + 1..count {
+            let v = check_pair_at(n, m, starts, ds, i, j);
+            if let Verdict::Refused(_) = v {
+                found = v;
+                break 'pairs;
+            }
+        }
+    }
+    found
+}
+
+// Tests 5 to 7 of these faults.
+fn check_paths(n: usize, m: usize, grid: &[u8], starts: &[u16], ds: &[u8]) -> Verdict
+    requires { ⌜ Starts n m (now starts) (now ds) × (length (now grid) ≡ 1024) ⌝ }
+    ensures { λ r. ⌜ r ≡ paths-test n m (now (grid .entry)) (paired (now (starts .entry)) (now (ds .entry))) ⌝ }
+{
+    let open = check_opens(n, m, grid, starts, ds);
+    if let Verdict::Refused(_) = open {
+        return open;
+    }
+    check_pairs(n, m, starts, ds)
+}
+
+// Tests 5 to 7, over room for the directions of the faults that start at `starts`.
+fn check_listed(
+    n: usize,
+    m: usize,
+    grid: &[u8],
+    directions: &[u8],
+    starts: &[u16],
+    room: &mut [u8],
+) -> Verdict
+    requires { ⌜ Directed n m (now grid) (now directions) × (now starts ≡ faults n m (now grid)) × (length (now room) ≡ length (now starts)) ⌝ }
+    ensures { λ r. ⌜ r ≡ paths-test n m (now (grid .entry)) (directed-faults n m (now (grid .entry)) (now (directions .entry))) ⌝ }
+{
+    take_directions(directions, starts, room);
+    check_paths(n, m, grid, starts, room)
+}
+
+// Tests 5 to 7, over room for the faults and their directions.
+fn check_within(
+    n: usize,
+    m: usize,
+    grid: &[u8],
+    directions: &[u8],
+    starts: &mut [u16],
+    room: &mut [u8],
+) -> Verdict
+    requires { ⌜ Directed n m (now grid) (now directions) × (length (now starts) ≡ 1024) × (length (now room) ≡ 1024) ⌝ }
+    ensures { λ r. ⌜ r ≡ paths-test n m (now (grid .entry)) (directed-faults n m (now (grid .entry)) (now (directions .entry))) ⌝ }
+{
+    let count = list_faults(n, m, grid, starts);
+    check_listed(n, m, grid, directions, &starts[..count], &mut room[..count])
+}
+
+fn check_faults(n: usize, m: usize, grid: &[u8], directions: &[u8]) -> Verdict
+    requires { ⌜ Directed n m (now grid) (now directions) ⌝ }
+    ensures { λ r. ⌜ r ≡ paths-test n m (now (grid .entry)) (directed-faults n m (now (grid .entry)) (now (directions .entry))) ⌝ }
+{
+    let mut starts = [0u16; 1024];
+    let mut room = [0u8; 1024];
+    check_within(n, m, grid, directions, &mut starts, &mut room)
+}
+
+// Tests 1 to 7, where `right` says that every lent buffer has 1,024 elements, the grid and the directions among them.
+pub fn check_tests(n: usize, m: usize, right: bool, grid: &[u8], directions: &[u8]) -> Verdict
+    requires { ⌜ (right ≡ true → (length (now grid) ≡ 1024) × (length (now directions) ≡ 1024)) ⌝ }
+    ensures { λ r. ⌜ r ≡ plan-tests n m right (now (grid .entry)) (now (directions .entry)) ⌝ }
+{
+    let map = array::check_map(n, m, right, grid);
+    if let Verdict::Refused(_) = map {
+        return map;
+    }
+    let wrong = check_directions(n, m, grid, directions);
+    if let Verdict::Refused(_) = wrong {
+        return wrong;
+    }
+    check_faults(n, m, grid, directions)
+}
+
+// The plan check: whether the directions are a plan for the grid, or the first of tests 1 to 7 that refuses them.
+pub fn check_plan(n: usize, m: usize, grid: &[u8], directions: &[u8]) -> Verdict
+    ensures { λ r. ⌜ told r ≡ told (check-plan n m (now (grid .entry)) (now (directions .entry))) ⌝ }
+{
+    check_tests(
+        n,
+        m,
+        (grid.len() == 1024) & (directions.len() == 1024),
+        grid,
+        directions,
+    )
 }

@@ -1,15 +1,13 @@
 -- `array::check_map` meets its contract: the tests in order.
 -- Assumes nothing.
-use mathlib.Core.Path.{_≡_, refl, sym, ap, _∙_}
-use mathlib.Core.Bool.{Bool, not, _&&_}
+use mathlib.Core.Path.{_≡_, refl, sym, _∙_}
+use mathlib.Core.Bool.{not, _&&_}
 use borrow.Author.Tests.{not-false}
 use Rattle.array.specs.Place.{size}
 use Rattle.array.specs.Map.{map-tests}
-use Rattle.array.proofs.Places.{Sized, sized}
+use Rattle.array.proofs.Places.{sized}
 use Rattle.array.proofs.Verdicts.{test-refuses, test-passes}
-use mathlib.Core.Bool.{Bool, true, not, _&&_}
 use borrow.Author.Needs.{needs}
-use native.Mathlib.Omega.{arith}
 use Rattle.array.proofs.check_map.Statement.{statement}
 use Rattle.array.proofs.check_map.Tie as tie
 

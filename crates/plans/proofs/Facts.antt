@@ -1,0 +1,84 @@
+-- What the passed tests say of the faults, for the paths' tests.
+-- Assumes nothing.
+use mathlib.Core.Path.{_≡_, sym, ap, subst, _∙_}
+use mathlib.Core.Bool.{Bool, true, false, _&&_, _||_}
+use mathlib.Core.List.{List, _++_}
+use Prim.Native.Nat.{ℕ, _<_, _≤_}
+use native.Mathlib.Omega.{arith}
+use borrow.Author.Tests.{ltb-false, eqb-false}
+use lib.Dec.{eqb, ltb}
+use lib.ListN.{length, getD, take}
+use lib.Seq.{take-at}
+use Rattle.array.specs.Place.{inner}
+use Rattle.array.specs.Map.{inner-faulty, inner-fault}
+use Rattle.array.proofs.Bools.{and-true, or-false}
+use Rattle.array.proofs.Verdicts.{accepted-false}
+use Rattle.array.proofs.Scans.{buffer-scan, scan-each}
+use Rattle.array.proofs.Filters.{Hit, position-at, positions-short}
+use Rattle.array.proofs.Marks.{mark-read}
+use Rattle.paths.specs.Path.{Start}
+use Rattle.plans.specs.Faults.{faults, directions-at}
+use Rattle.plans.specs.Check.{wrong-direction, direction-test}
+use Rattle.plans.specs.Inner.{Starts, Directed}
+use Rattle.plans.proofs.Pairing.{directions-length, direction-at}
+
+-- the part of a buffer that holds a list
+pub listed : (out fs rest : List ℕ) (count : ℕ) → count ≡ length fs → out ≡ fs ++ rest → take count out ≡ fs
+listed out fs rest count h e = ap (take count) e ∙ take-at fs rest count (sym h)
+
+-- a direction that is not wrong at a fault
+right-at-fault : (fault : Bool) (d : ℕ) → fault ≡ true → wrong-direction fault d ≡ false → (1 ≤ d) × (d ≤ 4)
+right-at-fault fault d f h =
+    let x = or-false (ltb 4 d || (fault && eqb d 0)) _ h in
+    let y = or-false (ltb 4 d) _ (x .0) in
+    let z : eqb d 0 ≡ false = ap (λ (t : Bool). t && eqb d 0) (sym f) ∙ y .1 in
+    let u : d ≡ 0 → ⊥ = eqb-false d 0 z in
+    let v : d ≤ 4 = ltb-false 4 d (y .0) in
+    (omega arith, v)
+
+-- the k-th fault is an inner position marked 1
+pub fault-hit : (n m : ℕ) (grid : List ℕ) (k : ℕ) → k < length (faults n m grid)
+    → Hit (inner-faulty n m) grid (getD (faults n m grid) k 0)
+unfolding faults
+fault-hit n m grid k h = position-at (inner-faulty n m) grid k h
+
+pub faults-short : (n m : ℕ) (grid : List ℕ) → length (faults n m grid) ≤ length grid
+unfolding faults
+faults-short n m grid = positions-short (inner-faulty n m) grid
+
+pub hit-inner-fault : (n m : ℕ) (grid : List ℕ) (p : ℕ) → Hit (inner-faulty n m) grid p → inner-fault n m grid p ≡ true
+hit-inner-fault n m grid p x = ap (inner-faulty n m p) (mark-read grid p (x .below)) ∙ x .passes
+
+module _ (n m : ℕ) (grid directions : List ℕ) (t : Directed n m grid directions) where
+  pub fault-below : (k : ℕ) → k < length (faults n m grid) → getD (faults n m grid) k 0 < 1024
+  fault-below k h =
+      let x = fault-hit n m grid k h in
+      omega (arith, x .below, t .sound .grid-long)
+
+  fault-start : (k : ℕ) → k < length (faults n m grid)
+      → Start n m (getD (faults n m grid) k 0) (getD directions (getD (faults n m grid) k 0) 0)
+  fault-start k h =
+      let p = getD (faults n m grid) k 0 in
+      let d = getD directions p 0 in
+      let x = fault-hit n m grid k h in
+      let l : p < length directions = omega (arith, fault-below k h, t .sound .directions-long) in
+      let f = hit-inner-fault n m grid p x in
+      let w = accepted-false (wrong-direction (inner-fault n m grid p) d) 4 p 0
+      (scan-each (buffer-scan (direction-test n m grid) directions) (t .right) p l) in
+      let r = right-at-fault (inner-fault n m grid p) d f w in
+      record {
+        rows = t .sound .rows;
+        columns = t .sound .columns;
+        at = and-true (inner n m p) _ (x .passes) .0;
+        low = r .0;
+        high = r .1;
+      }
+
+  pub fault-starts : Starts n m (faults n m grid) (directions-at directions (faults n m grid))
+  fault-starts =
+      record {
+        same = directions-length directions (faults n m grid);
+        each = λ k h.
+            subst (λ (d : ℕ). Start n m (getD (faults n m grid) k 0) d) (sym (direction-at directions (faults n m grid) k h))
+            (fault-start k h);
+      }

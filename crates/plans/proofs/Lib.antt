@@ -1,0 +1,3 @@
+pub mod Pairing
+pub mod Facts
+pub mod Accepts
