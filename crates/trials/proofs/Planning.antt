@@ -62,8 +62,7 @@ module _ {n m : ℕ} {grid out : List ℕ} {count : ℕ} (s : Listed n m grid ou
       subst
       (λ (l : List ℕ).
       (o ≡ outcome limit (searched n m grid l)) × (directions ≡ directions-written limit l (searched n m grid l)))
-      (s .front)
-      (
+      (s .front) (
         p,
         q
             ∙ ap (finished fs (take count chosen)) p

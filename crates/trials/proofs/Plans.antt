@@ -121,12 +121,12 @@ module _ (opens : ℕ → ℕ → Bool) (clear : ℕ → ℕ → ℕ → ℕ →
     straight-in d (s .chosen .straight 0 (omega arith)),
     and-both _ _ (s .open-at 0 (omega arith)) (s .apart-at 0 (omega arith)),
     sound-kept ps xs (fault p d ∷ kept)
-    (record {
-      chosen = chosen-less p d ps xs (s .chosen);
-      open-at = λ k h. s .open-at (suc k) (omega arith);
-      apart-at = λ k h. and-both _ _ (s .clear-at 0 (suc k) (omega arith) (omega arith)) (s .apart-at (suc k) (omega arith));
-      clear-at = λ i j l h. s .clear-at (suc i) (suc j) (omega arith) (omega arith);
-    }),
+        (record {
+          chosen = chosen-less p d ps xs (s .chosen);
+          open-at = λ k h. s .open-at (suc k) (omega arith);
+          apart-at = λ k h. and-both _ _ (s .clear-at 0 (suc k) (omega arith) (omega arith)) (s .apart-at (suc k) (omega arith));
+          clear-at = λ i j l h. s .clear-at (suc i) (suc j) (omega arith) (omega arith);
+        }),
   )
 
   wrong-after : (p d : ℕ) (ps xs : List ℕ) (kept : List Fault) → Wrong (fault p d ∷ kept) ps xs → Wrong kept (p ∷ ps) (d ∷ xs)

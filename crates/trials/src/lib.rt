@@ -27,15 +27,7 @@ fn is_clear(n: usize, m: usize, p: usize, d: u8, q: usize, e: u8) -> bool
 }
 
 // Inner part: whether fault k keeps direction d, after the directions that the faults before it have kept.
-fn is_kept(
-    n: usize,
-    m: usize,
-    grid: &[u8],
-    starts: &[u16],
-    chosen: &[u8],
-    k: usize,
-    d: u8,
-) -> bool
+fn is_kept(n: usize, m: usize, grid: &[u8], starts: &[u16], chosen: &[u8], k: usize, d: u8) -> bool
     requires { ⌜ Searchable n m (now grid) (now starts) (now chosen) × (k < length (now starts))
         × Straight-front (now chosen) k × (1 ≤ d) × (d ≤ 4) ⌝ }
     ensures { λ r. ⌜ r ≡ keeps-on n m (now (grid .entry)) (kept-in (now (starts .entry)) (now (chosen .entry)) k)

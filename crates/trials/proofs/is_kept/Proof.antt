@@ -57,8 +57,7 @@ is-clear-requires c κs =
     let j = l .loop .j - 1 in
     let low : j < l .loop .j = omega arith in
     let within = l .loop .inv .within in
-    let e = s .pre .2 j (omega arith) in
-    (
+    let e = s .pre .2 j (omega arith) in (
       start-at (s .pre .0) j (getD (s .args .chosen .now) j 0) (omega arith) (e .0) (e .1),
       start-at (s .pre .0) (s .args .k) (s .args .d) (s .pre .1) (s .pre .3) (s .pre .4),
     )
