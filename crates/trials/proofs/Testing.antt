@@ -37,20 +37,20 @@ module _ (opens : ℕ → ℕ → Bool) (clear : ℕ → ℕ → ℕ → ℕ →
     pub within : j ≤ k
     pub left : answer ≡ left-of j
 
-  pub test-shut : (r : Bool) → r ≡ opens p d → not r ≡ true → false ≡ answer
+  pub test-shut : {r : Bool} → r ≡ opens p d → not r ≡ true → false ≡ answer
   unfolding keeps
-  test-shut r e t = rw (← e, not-true r t)
+  test-shut {r} e t = rw (← e, not-true r t)
 
-  pub test-start : (r : Bool) → r ≡ opens p d → not r ≡ false → Testing k
+  pub test-start : {r : Bool} → r ≡ opens p d → not r ≡ false → Testing k
   unfolding keeps
-  test-start r e t = record { within = omega arith; left = rw (← e, not-false r t) }
+  test-start {r} e t = record { within = omega arith; left = rw (← e, not-false r t) }
 
   left-last : (j : ℕ) → 0 < j → left-of j ≡ (clear (getD starts (j - 1) 0) (getD chosen (j - 1) 0) p d && left-of (j - 1))
   unfolding clear-of kept-in
   left-last zero h = absurd (omega arith)
   left-last (suc j) h = let e : suc j - 1 ≡ j = omega arith in rw e
 
-  module _ {j : ℕ} (s : Testing j) (h : 0 < j) (q : Bool) (e : q ≡ clear (getD starts (j - 1) 0) (getD chosen (j - 1) 0) p d) where
+  module _ {j : ℕ} (s : Testing j) {q : Bool} (h : 0 < j) (e : q ≡ clear (getD starts (j - 1) 0) (getD chosen (j - 1) 0) p d) where
     pub test-clash : not q ≡ true → false ≡ answer
     test-clash t = rw (s .left, left-last j h, ← e, not-true q t)
 

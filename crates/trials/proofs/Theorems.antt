@@ -18,10 +18,6 @@ use Rattle.trials.proofs.Plans.{Sound, Wrong, shut, clash-before, clash
 
 -- two paths are clear where they neither meet nor nearly miss
 module _ (n m p d q e : ℕ) where
-  clear-intro : meet n m p d q e ≡ false → near-miss p d q e ≡ false → clear n m p d q e ≡ true
-  unfolding clear
-  clear-intro a b = rw (a, b)
-
   clear-both : clear n m p d q e ≡ true → (meet n m p d q e ≡ false) × (near-miss p d q e ≡ false)
   unfolding clear
   clear-both h = by (meet n m p d q e) (near-miss p d q e) h
@@ -30,6 +26,10 @@ module _ (n m p d q e : ℕ) where
       by false false h = (refl, refl)
       by false true h = absurd (true≢false (sym h))
       by true b h = absurd (true≢false (sym h))
+
+  clear-intro : meet n m p d q e ≡ false → near-miss p d q e ≡ false → clear n m p d q e ≡ true
+  unfolding clear
+  clear-intro a b = rw (a, b)
 
   clear-not : clear n m p d q e ≡ false → (meet n m p d q e ≡ true) ⊎ (near-miss p d q e ≡ true)
   unfolding clear

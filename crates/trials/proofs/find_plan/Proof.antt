@@ -54,9 +54,11 @@ slice-aggregate-write-found-2 c = sym (length-take-le _ _ (room (c .before .befo
 
 write-found-requires : tie.Need-write-found-requires
 write-found-requires c κs =
-    let s = c .before .before .before .before .before .before .before .before .before .before .before .before in
-    let l = all-listed (c .before .before .before .before .before .before .before .before) in
-    let e = length-take-le (c .before .before .before .before .before .before .before .before .list-faults .result) (c .before .before .before .before .search .last .1 .1 .1 .1 .0) (room (c .before .before .before .before)) in
+    let q = c .before .before .before .before in
+    let f = q .before .before .before .before in
+    let s = f .before .before .before .before in
+    let l = all-listed f in
+    let e = length-take-le (f .list-faults .result) (q .search .last .1 .1 .1 .1 .0) (room q) in
     (s .pre .3, omega (arith, l .size, e), starts-below l (s .pre .2))
 
 same-length : tie.Need-same-length
@@ -64,8 +66,8 @@ same-length c = search needs
 
 returns : tie.Need-returns
 returns c =
-    let q = c .before .before .before .before .before .before .before .search in
-    planned-end (all-listed (c .before .before .before .before .before .before .before .before .before .before .before)) _ _ _ _ (q .ensures .0) (q .ensures .1) (c .before .before .write-found .ensures)
+    let q = c .before .before .before .before .before .before .before in
+    planned-end (all-listed (q .before .before .before .before)) _ _ _ _ (q .search .ensures .0) (q .search .ensures .1) (c .before .before .write-found .ensures)
 
 pub find-plan-spec : {M : Type 1} → statement M
 find-plan-spec =

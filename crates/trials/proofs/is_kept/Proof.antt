@@ -30,10 +30,10 @@ is-open-requires c κs =
     (start-at (s .pre .0) (s .args .k) (s .args .d) (s .pre .1) (s .pre .3) (s .pre .4), s .pre .0 .marks)
 
 returns : tie.Need-returns Inv-loop μ-loop
-returns c = test-shut _ _ _ _ _ _ (c .before .is-open .result) (c .before .is-open .ensures) (c .if1 .taken)
+returns c = test-shut _ _ _ _ _ _ (c .before .is-open .ensures) (c .if1 .taken)
 
 loop-holds : tie.Need-loop-holds Inv-loop μ-loop
-loop-holds c = test-start _ _ _ _ _ _ (c .before .is-open .result) (c .before .is-open .ensures) (c .if1 .left)
+loop-holds c = test-start _ _ _ _ _ _ (c .before .is-open .ensures) (c .if1 .left)
 
 sub-j : tie.Need-sub-j Inv-loop μ-loop
 sub-j c = omega arith
@@ -64,14 +64,16 @@ is-clear-requires c κs =
 
 returns-2 : tie.Need-returns-2 Inv-loop μ-loop
 returns-2 c =
-    test-clash _ _ _ _ _ _ (c .before .before .before .before .before .loop .inv) (omega arith) (c .before .is-clear .result) (c .before .is-clear .ensures) (c .if2 .taken)
+    let v = c .before .before .before .before .before .loop .inv in
+    test-clash _ _ _ _ _ _ v (omega arith) (c .before .is-clear .ensures) (c .if2 .taken)
 
 loop-less : tie.Need-loop-less Inv-loop μ-loop
 loop-less c = omega arith
 
 loop-again : tie.Need-loop-again Inv-loop μ-loop
 loop-again c =
-    test-next _ _ _ _ _ _ (c .before .before .before .before .before .loop .inv) (omega arith) (c .before .is-clear .result) (c .before .is-clear .ensures) (c .if2 .left)
+    let v = c .before .before .before .before .before .loop .inv in
+    test-next _ _ _ _ _ _ v (omega arith) (c .before .is-clear .ensures) (c .if2 .left)
 
 returns-3 : tie.Need-returns-3 Inv-loop μ-loop
 returns-3 c = test-end _ _ _ _ _ _ _ (c .before .loop .inv) (omega arith)

@@ -1,6 +1,5 @@
 -- `trials::wipe` meets its contract: the places passed hold 0.
 -- Assumes nothing.
-use mathlib.Core.Path.{refl}
 use Prim.Native.Nat.{_-_}
 use Rattle.array.specs.Buffer.{nothing-at}
 use Rattle.array.proofs.Fills.{Filling, fill-start, fill-step, fill-end}
@@ -27,7 +26,7 @@ loop-less : tie.Need-loop-less Inv-loop μ-loop
 loop-less c = omega arith
 
 loop-again : tie.Need-loop-again Inv-loop μ-loop
-loop-again c = fill-step (c .before .loop .inv) _ (omega arith) refl
+loop-again c = fill-step (c .before .loop .inv) _ (omega arith) (omega arith)
 
 same-length : tie.Need-same-length Inv-loop μ-loop
 same-length c = omega arith
