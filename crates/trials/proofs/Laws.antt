@@ -130,7 +130,7 @@ offer-bound keep go m h (d ∷ l) =
     (next-bound (keep d) (go d) d (offer keep go l) (length l) (length l * m) m (h d) (offer-bound keep go m h l)
     (omega (arith, offer-bound keep go m h l)))
 
--- T is at most (4^(F+1) − 4)/3
+-- the bound on T, without a division
 pub trials-bound : (keep : List Fault → ℕ → ℕ → Bool) (ps : List ℕ) (kept : List Fault)
     → 3 * count (trials keep kept ps) + 4 ≤ 4 ^ suc (length ps)
 unfolding trials
