@@ -48,14 +48,7 @@ fn is_kept(n: usize, m: usize, grid: &[u8], starts: &[u16], chosen: &[u8], k: us
 }
 
 // Inner part: the trials over the faults at these starts. Fault k is offered direction d next, and `spent` trials are made.
-pub fn search(
-    n: usize,
-    m: usize,
-    grid: &[u8],
-    starts: &[u16],
-    chosen: &mut [u8],
-    limit: u32,
-) -> Outcome
+fn search(n: usize, m: usize, grid: &[u8], starts: &[u16], chosen: &mut [u8], limit: u32) -> Outcome
     requires { ⌜ Searchable n m (now grid) (now starts) (now chosen) ⌝ }
     ensures outcome { λ r. ⌜ r ≡ outcome limit (searched n m (now (grid .entry)) (now (starts .entry))) ⌝ }
     ensures plan { λ _. ⌜ Holds limit (searched n m (now (grid .entry)) (now (starts .entry)))
@@ -126,7 +119,7 @@ fn write_found(found: Outcome, starts: &[u16], chosen: &[u8], directions: &mut [
 }
 
 // Inner part: the planner on a map that passes the tests 1 to 3. It lists the faults, searches over them, and writes the direction buffer.
-pub fn find_plan(n: usize, m: usize, grid: &[u8], directions: &mut [u8], limit: u32) -> Outcome
+fn find_plan(n: usize, m: usize, grid: &[u8], directions: &mut [u8], limit: u32) -> Outcome
     requires { ⌜ (n ≤ 30) × (m ≤ 30) × (length (now grid) ≡ 1024) × (length (now directions) ≡ 1024) ⌝ }
     ensures { λ r. ⌜ (r ≡ outcome limit (planned n m (now (grid .entry))))
         × (now (directions .exit) ≡ directions-written limit (faults n m (now (grid .entry))) (planned n m (now (grid .entry)))) ⌝ }
