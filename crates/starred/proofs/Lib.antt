@@ -1,0 +1,4 @@
+pub mod Stars
+pub mod Bench
+pub mod Follows
+pub mod Refusals

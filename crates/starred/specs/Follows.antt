@@ -1,0 +1,73 @@
+-- Links followed, computed: one that arrives, and each way in which the track can end.
+-- Assumes nothing.
+use Prim.Native.Nat.{ℕ}
+use mathlib.Core.Path.{_≡_}
+use mathlib.Core.List.{List, [], _∷_}
+use lib.ListN.{set}
+use Rattle.plans.specs.Faults.{fault}
+use Rattle.plans.specs.declared.Fault.{Fault}
+use Rattle.track.specs.Letters.{across-letters, down-letters}
+use Rattle.track.specs.Ports.{Wafer, W, E, N, S, Processor, Across, _at_}
+use Rattle.track.specs.Link.{run}
+use Rattle.track.specs.Pieces.{stretch, join, pieces}
+use Rattle.track.specs.Follower.{refused, followed, out-of, seat-of}
+use Rattle.track.specs.declared.Followed.the-variants.{Entered}
+use Rattle.starred.specs.Grids.{grid-of, directions-of}
+
+-- a wafer with the switches that document 01 defines for these directions
+abbrev pub wafer : ℕ → List ℕ → List Fault → Wafer
+wafer size faulty fs =
+    record {
+      rows = size;
+      columns = size;
+      grid = grid-of size size faulty;
+      directions = directions-of fs;
+      across = across-letters size size (grid-of size size faulty) (directions-of fs);
+      down = down-letters size size (grid-of size size faulty) (directions-of fs);
+    }
+
+-- the bench program's example; (1,1) and (1,2) with S and N; and 1 x 1 with (1,1) going south, or with a faulty spare to the east
+abbrev pub bench : Wafer
+bench = wafer 2 (33 ∷ []) (fault 33 1 ∷ [])
+
+abbrev pub facing : Wafer
+facing = wafer 2 (33 ∷ 34 ∷ 98 ∷ []) (fault 33 1 ∷ fault 34 2 ∷ [])
+
+-- a wafer with other across letters
+abbrev pub with-across : Wafer → List ℕ → Wafer
+with-across w across =
+    record {
+      rows = w .rows;
+      columns = w .columns;
+      grid = w .grid;
+      directions = w .directions;
+      across = across;
+      down = w .down;
+    }
+
+pub record Followed-examples : Type 0 where
+  -- [1, 1], which sits at (2, 1), to the right: to (1, 2), by W, over two switches
+  pub right : followed bench 33 0 ≡ Entered (record { position = 34; port = 0; switches = 2 })
+  -- the same downward: to (3, 1), by N, over one
+  pub lower : followed bench 33 1 ≡ Entered (record { position = 97; port = 2; switches = 1 })
+  -- past two faults, from (2, 1) to (0, 2), over three
+  pub three : followed facing 33 0 ≡ Entered (record { position = 2; port = 0; switches = 3 })
+  -- the pieces of the first
+  pub right-pieces : pieces (out-of (seat-of bench 33) 0) (run bench 7 (out-of (seat-of bench 33) 0))
+      ≡ stretch (Processor 2 1 at E) (Across 2 1 at W) ∷ join (Across 2 1) W N
+      ∷ stretch (Across 2 1 at N) (Across 1 1 at S) ∷ join (Across 1 1) S E
+      ∷ stretch (Across 1 1 at E) (Processor 1 2 at W) ∷ []
+  -- with b everywhere it goes astray
+  pub astray : followed (with-across bench (bench .down)) 33 0 ≡ Entered (record { position = 66; port = 0; switches = 1 })
+  -- 17 at the cell's processor: there is no switch beside the spare (2, 1)
+  pub no-switch : followed (wafer 1 (33 ∷ []) (fault 33 1 ∷ [])) 33 0 ≡ refused 17 65
+  -- 17 at the last switch: the spare (1, 2) is faulty
+  pub faulty-spare : followed (wafer 1 (34 ∷ []) []) 33 0 ≡ refused 17 33
+  -- 17 at a switch whose port is joined to nothing: a at (2, 1)
+  pub unjoined-switch : followed (with-across bench (set (bench .across) 65 97)) 33 0 ≡ refused 17 65
+  -- 17 before a fault that joins N and S, entered by W: b at (1, 1) leads from (1, 1) into (1, 2)
+  pub unjoined-fault : followed (with-across (wafer 2 (34 ∷ []) (fault 34 1 ∷ [])) (bench .down)) 33 0 ≡ refused 17 33
+  -- 17 at (0, 1), beyond which the channel has no switch
+  pub missing-switch : followed (with-across bench (set (set (bench .across) 33 97) 1 97)) 33 0 ≡ refused 17 1
+  -- 18 at (0, 1): from [2, 1] over (3, 1), (2, 1) and (1, 1) it would be the fourth
+  pub fourth-switch : followed (with-across bench (set (set (bench .across) 33 97) 65 97)) 65 0 ≡ refused 18 1

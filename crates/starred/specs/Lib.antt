@@ -1,0 +1,5 @@
+pub mod Grids
+pub mod Stars
+pub mod Bench
+pub mod Follows
+pub mod Refusals
