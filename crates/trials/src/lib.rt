@@ -1,8 +1,133 @@
-// The search for a plan.
+// The search for a plan. The functions are inner parts of the planner: each requires what the planner has tested.
+ghost use mathlib.Core.Path.{_≡_};
+ghost use Prim.Native.Nat.{ℕ, _≤_, _<_};
+ghost use lib.ListN.{length, getD, take};
+ghost use Rattle.array.specs.Buffer.{buffer, zeros};
+ghost use Rattle.paths.specs.Path.{Start};
+ghost use Rattle.plans.specs.Faults.{faults, paired};
+ghost use Rattle.trials.specs.Search.{clear, searched, planned, outcome, direction-of, directions-written};
+ghost use Rattle.trials.specs.Inner.{kept-in, keeps-on, Straight-front, Searchable, Holds, finished};
 
 // The planner's outcome, with its count: T, or the limit where the search is spent.
 pub enum Outcome {
     Repaired(u32),
     Beyond(u32),
     Spent(u32),
+}
+
+// Inner part: whether two paths neither meet nor nearly miss.
+fn is_clear(n: usize, m: usize, p: usize, d: u8, q: usize, e: u8) -> bool
+    requires { ⌜ Start n m p d × Start n m q e ⌝ }
+    ensures { λ r. ⌜ r ≡ clear n m p d q e ⌝ }
+{
+    if paths::do_meet(n, m, p, d, q, e) {
+        return false;
+    }
+    !paths::is_near_miss(p, d, q, e)
+}
+
+// Inner part: whether fault k keeps direction d, after the directions that the faults before it have kept.
+fn is_kept(n: usize, m: usize, grid: &[u8], starts: &[u16], chosen: &[u8], k: usize, d: u8) -> bool
+    requires { ⌜ Searchable n m (now grid) (now starts) (now chosen) × (k < length (now starts))
+        × Straight-front (now chosen) k × (1 ≤ d) × (d ≤ 4) ⌝ }
+    ensures { λ r. ⌜ r ≡ keeps-on n m (now (grid .entry)) (kept-in (now (starts .entry)) (now (chosen .entry)) k)
+        (getD (now (starts .entry)) k 0) d ⌝ }
+{
+    let p = starts[k] as usize;
+    if !paths::is_open(n, m, grid, p, d) {
+        return false;
+    }
+    let mut j = k;
+    while 0 < j {
+        j -= 1;
+        if !is_clear(n, m, starts[j] as usize, chosen[j], p, d) {
+            return false;
+        }
+    }
+    true
+}
+
+// Inner part: the trials over the faults at these starts. Fault k is offered direction d next, and `spent` trials are made.
+fn search(n: usize, m: usize, grid: &[u8], starts: &[u16], chosen: &mut [u8], limit: u32) -> Outcome
+    requires { ⌜ Searchable n m (now grid) (now starts) (now chosen) ⌝ }
+    ensures outcome { λ r. ⌜ r ≡ outcome limit (searched n m (now (grid .entry)) (now (starts .entry))) ⌝ }
+    ensures plan { λ _. ⌜ Holds limit (searched n m (now (grid .entry)) (now (starts .entry)))
+        (take (length (now (starts .entry))) (now (chosen .exit))) ⌝ }
+{
+    let mut k: usize = 0;
+    let mut d: u8 = 1;
+    let mut spent: u32 = 0;
+    while k < starts.len() {
+        if 4 < d {
+            if k == 0 {
+                return Outcome::Beyond(spent);
+            }
+            k -= 1;
+            d = chosen[k] + 1;
+        } else {
+            if spent == limit {
+                return Outcome::Spent(limit);
+            }
+            spent += 1;
+            if is_kept(n, m, grid, starts, chosen, k, d) {
+                chosen[k] = d;
+                k += 1;
+                d = 1;
+            } else {
+                d += 1;
+            }
+        }
+    }
+    Outcome::Repaired(spent)
+}
+
+// Inner part: writes 0 in the whole direction buffer.
+fn wipe(directions: &mut [u8])
+    requires { ⌜ length (now directions) ≡ 1024 ⌝ }
+    ensures { λ _. ⌜ now (directions .exit) ≡ zeros ⌝ }
+{
+    for p in 0..1024 {
+        directions[p] = 0;
+    }
+}
+
+// Inner part: writes the direction of each fault at its start, and 0 elsewhere.
+fn write_plan(starts: &[u16], chosen: &[u8], directions: &mut [u8])
+    requires { ⌜ (length (now directions) ≡ 1024) × (length (now starts) ≤ length (now chosen))
+        × ((i : ℕ) → i < length (now starts) → getD (now starts) i 0 < 1024) ⌝ }
+    ensures { λ _. ⌜ now (directions .exit) ≡ buffer (direction-of (paired (now (starts .entry)) (now (chosen .entry)))) ⌝ }
+{
+    wipe(directions);
+    let mut k = starts.len();
+    while 0 < k {
+        k -= 1;
+        directions[starts[k] as usize] = chosen[k];
+    }
+}
+
+// Inner part: writes the direction buffer by the outcome: the directions chosen, or 0 everywhere.
+fn write_found(found: Outcome, starts: &[u16], chosen: &[u8], directions: &mut [u8])
+    requires { ⌜ (length (now directions) ≡ 1024) × (length (now starts) ≤ length (now chosen))
+        × ((i : ℕ) → i < length (now starts) → getD (now starts) i 0 < 1024) ⌝ }
+    ensures { λ _. ⌜ now (directions .exit) ≡ finished (now (starts .entry)) (now (chosen .entry)) found ⌝ }
+{
+    match found {
+        Outcome::Repaired(_) => write_plan(starts, chosen, directions),
+        Outcome::Beyond(_) => wipe(directions),
+        Outcome::Spent(_) => wipe(directions),
+    }
+}
+
+// Inner part: the planner on a map that passes the tests 1 to 3. It lists the faults, searches over them, and writes the direction buffer.
+fn find_plan(n: usize, m: usize, grid: &[u8], directions: &mut [u8], limit: u32) -> Outcome
+    requires { ⌜ (n ≤ 30) × (m ≤ 30) × (length (now grid) ≡ 1024) × (length (now directions) ≡ 1024) ⌝ }
+    ensures { λ r. ⌜ (r ≡ outcome limit (planned n m (now (grid .entry))))
+        × (now (directions .exit) ≡ directions-written limit (faults n m (now (grid .entry))) (planned n m (now (grid .entry)))) ⌝ }
+{
+    let mut starts = [0u16; 1024];
+    let mut chosen = [0u8; 1024];
+    let count = plans::list_faults(n, m, grid, &mut starts);
+    let found = search(n, m, grid, &starts[..count], &mut chosen, limit);
+    write_found(found, &starts[..count], &chosen[..count], directions);
+    found
 }
