@@ -1,0 +1,9 @@
+pub mod View
+pub mod Walks
+pub mod Cross
+pub mod Runs
+pub mod Own
+pub mod Rules
+pub mod Links
+pub mod Paths
+pub mod FromPlan
