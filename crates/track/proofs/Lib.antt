@@ -7,3 +7,6 @@ pub mod Rules
 pub mod Links
 pub mod Paths
 pub mod FromPlan
+pub mod OnPath
+pub mod Through
+pub mod Seen

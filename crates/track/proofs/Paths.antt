@@ -13,7 +13,7 @@ use Rattle.track.proofs.Cross.{and-left, and-right, and-intro}
 pub moving-not-still : (d : Dir) → T (moving d) → d ≡ still → ⊥
 moving-not-still d t e = subst (λ (z : Dir). T (moving z)) e t
 
-on-moving : (w : View) (d : Dir) (fx fy x y : ℕ) → T (on w d fx fy x y) → T (moving d)
+pub on-moving : (w : View) (d : Dir) (fx fy x y : ℕ) → T (on w d fx fy x y) → T (moving d)
 on-moving w still fx fy x y t = t
 on-moving w south fx fy x y t = tt
 on-moving w north fx fy x y t = tt
