@@ -10,3 +10,5 @@ pub mod FromPlan
 pub mod OnPath
 pub mod Through
 pub mod Seen
+pub mod Trails
+pub mod Held

@@ -175,3 +175,10 @@ module _ (w : View) (p : Planned w) where
 
   pub covered : (x y : ℕ) → T (inner w x y) → T (w .faulty x y) → w .path x y ≡ still → ⊥
   covered x y i f e = p .each x y i f (sym (fault-path x y i f) ∙ e)
+
+  -- a fault on a path is its start
+  pub own-direction : (d : Dir) (x y : ℕ) → T (moving d) → T (w .faulty x y) → w .path x y ≡ d → w .dir x y ≡ d
+  own-direction d x y m f e =
+      let s = p .source d x y m e in
+      let q = p .open-path (s .row) (s .col) x y (source-covers w d x y s) f in
+      ap (λ (z : ℕ). w .dir z y) (q .0) ∙ ap (λ (z : ℕ). w .dir (s .row) z) (q .1) ∙ s .is
