@@ -155,7 +155,7 @@ tr-tr north = refl
 tr-tr east = refl
 tr-tr west = refl
 
-untr : (d e : Dir) → tr d ≡ e → d ≡ tr e
+pub untr : (d e : Dir) → tr d ≡ e → d ≡ tr e
 untr d e q = sym (tr-tr d) ∙ ap tr q
 
 swap : (a b : Bool) → T (a && b) → T (b && a)

@@ -31,7 +31,7 @@ use Rattle.track.proofs.Cross.{all, all-at}
 use Rattle.track.proofs.OnPath.{heading, by-heading}
 use Rattle.track.proofs.Seen.{view, planned}
 use Rattle.track.proofs.Paths.{moving-not-still, own-direction, true-if}
-use Rattle.track.proofs.Rules.{and-none}
+use Rattle.track.proofs.Rules.{and-none, processor-turns}
 use Rattle.track.proofs.Trails.{there, turned, unturned, down-turned, processor-turned, Alike}
 
 -- states and letters as document 01 writes them
@@ -124,11 +124,6 @@ down-joins-is sd E = refl
 down-joins-is sd N = refl
 down-joins-is sd S = refl
 down-joins-is no-switch p = refl
-
--- a processor stands in the transposed array where it stands in the array
-pub processor-turns : (n m x y : ℕ) → processor-at n m x y ≡ processor-at m n y x
-processor-turns n m x y =
-    rw (and-comm (leb x (n + 1)) (leb y (m + 1)), and-comm (eqb x 0 || eqb x (n + 1)) (eqb y 0 || eqb y (m + 1)))
 
 pub down-turns : (n m x y : ℕ) → across-exists m n x y ≡ down-exists n m y x
 down-turns n m x y = rw (processor-turns m n x y, processor-turns m n x (y + 1))

@@ -12,3 +12,6 @@ pub mod Through
 pub mod Seen
 pub mod Trails
 pub mod Held
+pub mod Seats
+pub mod OneLink
+pub mod Theorem
