@@ -127,7 +127,7 @@ module _ (w : View) (p : Planned w) where
       (give (goes-north d && not f) (goes-north d′)
       (λ t. T-north d′ (north-down w p x y (north-eq d (and-left (goes-north d) (not f) t)) (not-T f (and-right (goes-north d) (not f) t))))))))
 
-  near : (x y : ℕ) → T (beside (vertical w x y) (vertical w x (suc y)))
+  pub near : (x y : ℕ) → T (beside (vertical w x y) (vertical w x (suc y)))
   near x y =
       let d = w .path x y in
       let f = w .faulty x y in

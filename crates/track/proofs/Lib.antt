@@ -15,3 +15,4 @@ pub mod Held
 pub mod Seats
 pub mod OneLink
 pub mod Theorem
+pub mod XEntries
