@@ -16,3 +16,4 @@ pub mod Seats
 pub mod OneLink
 pub mod Theorem
 pub mod XEntries
+pub mod Follows
