@@ -8,6 +8,7 @@ pub mod Links
 pub mod Paths
 pub mod FromPlan
 pub mod OnPath
+pub mod Ranges
 pub mod Through
 pub mod Seen
 pub mod Trails

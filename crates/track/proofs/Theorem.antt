@@ -16,7 +16,7 @@ use Rattle.track.specs.Pieces.{Piece, Same, Same-two}
 use Rattle.track.specs.Follower.{processor-of}
 use Rattle.track.specs.Theorems.{Routed, Cell, holder, out, Neighbour, right, lower, Reaches, Links-reach, Neighbour-link, pieces-of, No-piece-shared}
 use Rattle.track.proofs.View.{Dir, still, south, north, east, west, tr, View, transposed, Planned}
-use Rattle.track.proofs.Walks.{Run, switch, fault, enters, dead, lost, too-long, last, Place, moved, placed, walk, across, inside, switches} 
+use Rattle.track.proofs.Walks.{Run, switch, fault, enters, dead, lost, too-long, last, Place, moved, placed, walk, across, inside, switches}
 use Rattle.track.proofs.Walks as walks
 use Rattle.track.proofs.Own.{of-switch, of-processor, ports, name, owner, Owned}
 use Rattle.track.proofs.Links.{Right, enters-at, link-right}
@@ -164,7 +164,7 @@ module _ (w : Wafer) (r : Routed w) (k l : ℕ) where
       let m = moved-tr (v .path (suc k) (suc l)) (suc k) (suc l) in
       let m′ = moved-tr (v .path (suc (suc k)) (suc l)) (suc (suc k)) (suc l) in
       let o : Processor (c .col) (c .row) at S ≡ out w (suc k) (suc l) 1 =
-          rw (processor-is w r k l (omega arith) b) (ap (λ (z : Place). Processor (z .col) (z .row) at S) m) in
+      rw (processor-is w r k l (omega arith) b) (ap (λ (z : Place). Processor (z .col) (z .row) at S) m) in
       record {
         reaches = record {
           link = trail down-turned processor-turned turned t;
