@@ -1,13 +1,12 @@
 -- What the tests 1 to 3 say of a map that passes them.
 -- Assumes nothing.
 use mathlib.Core.Path.{_≡_, sym, ap, _∙_}
-use mathlib.Core.Bool.{Bool, true, _&&_}
+use mathlib.Core.Bool.{true}
 use mathlib.Core.List.{List}
 use Prim.Native.Nat.{ℕ, _<_}
 use native.Mathlib.Omega.{arith}
 use borrow.Author.Tests.{eqb-true}
-use lib.ListN.{length, getD}
-use Rattle.array.specs.Place.{size}
+use lib.ListN.{length}
 use Rattle.array.specs.Buffer.{long}
 use Rattle.array.specs.Map.{mark-at, allowed, map-tests, mark-test, well-formed}
 use Rattle.array.specs.declared.Verdict.the-variants.{Accepted}

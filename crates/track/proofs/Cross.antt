@@ -1,6 +1,5 @@
 -- The crossing of one channel: from the routing states of six processors, by one computed table. Assumes nothing.
-use Prim.Native.Nat.{ℕ, zero, suc}
-use mathlib.Core.Path.{_≡_, refl}
+use Prim.Native.Nat.{ℕ, suc}
 use mathlib.Core.Bool.{Bool, true, false, _&&_}
 use lib.Dec.{T}
 use Rattle.track.proofs.Walks.{State, v0, v1, v2, v3, v4, Letter, sa, sb, sc, sd, no-switch, table}

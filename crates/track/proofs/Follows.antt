@@ -1,13 +1,13 @@
 -- The follower's answer is that of the link itself, on any wafer: it enters where the link does and nowhere else, and seven steps are enough.
 -- Assumes nothing.
-use Prim.Native.Nat.{ℕ, zero, suc, _+_, _*_, _≤_, _<_}
+use Prim.Native.Nat.{ℕ, zero, suc, _+_, _*_, _≤_}
 use mathlib.Core.Path.{_≡_, refl, sym, ap, subst, _∙_}
-use mathlib.Core.Bool.{Bool, true, false, cond, true≢false, false≢true}
+use mathlib.Core.Bool.{true, false, true≢false}
 use mathlib.Core.List.{List}
-use mathlib.Core.Logic.{_⊎_, inl, inr, _↔_}
+use mathlib.Core.Logic.{_⊎_, inl, inr}
 use mathlib.Core.Option.{Option, none, some}
 use native.Mathlib.Omega.{arith}
-use native.Mathlib.Nat.{add-zero, add-suc, suc-add}
+use native.Mathlib.Nat.{add-zero}
 use borrow.Author.Tests.{eqb-true, eqb-false, eq-eqb, ne-eqb}
 use lib.Dec.{eqb}
 use Rattle.array.specs.Map.{faulty}
@@ -15,8 +15,8 @@ use Rattle.array.specs.Tests.{refusal}
 use Rattle.array.specs.declared.Refusal.{Refusal}
 use Rattle.array.proofs.Bools.{by-bool}
 use Rattle.track.specs.Ports.{Wafer, Compass, W, E, N, S, Node, Processor, Across, Down, Port, _at_, neighbour, stands, if-stands, stretch-from, joins-nothing, joined}
-use Rattle.track.specs.Link.{Trail, passes, enters, unjoined-at, no-stretch, unfinished, Inside, ends, on, stops, joined-to, inside, Link, last, next, run, is-switch, one-if, switches, Enters}
-use Rattle.track.specs.Follower.{port-number, position-of, out-of, seat-of, refused, unless-fourth, judged, followed, Enough, landing, Link-of, Follower-own}
+use Rattle.track.specs.Link.{Trail, passes, enters, unjoined-at, no-stretch, unfinished, Inside, ends, on, stops, joined-to, inside, Link, last, next, run, is-switch, switches, Enters}
+use Rattle.track.specs.Follower.{port-number, position-of, out-of, seat-of, refused, judged, followed, Enough, Link-of, Follower-own}
 use Rattle.track.specs.declared.Landing.{Landing}
 use Rattle.track.specs.declared.Followed.{Followed}
 use Rattle.track.specs.declared.Followed.the-variants.{Entered}

@@ -1,12 +1,12 @@
 -- A plan keeps the rules between neighbours, and the transposed plan is a plan.
 -- Assumes nothing.
-use Prim.Native.Nat.{ℕ, zero, suc, _≤_, _<_, _+_, _-_}
+use Prim.Native.Nat.{ℕ, suc, _≤_}
 use native.Mathlib.Omega.{arith}
-use mathlib.Core.Path.{_≡_, refl, _∙_, sym, ap, subst}
+use mathlib.Core.Path.{_≡_, refl, _∙_, sym, ap}
 use mathlib.Core.Bool.{Bool, true, false, not, _&&_}
 use lib.Dec.{T, leb, le→leb}
 use Rattle.track.proofs.View.{Dir, still, south, north, east, west, tr, moving, View, transposed, on, covers, Source, Planned}
-use Rattle.track.proofs.Walks.{state, vertical, horizontal}
+use Rattle.track.proofs.Walks.{state, vertical}
 use Rattle.track.proofs.Cross.{above, beside, given, use-given, and-left, and-right, and-intro}
 use Rattle.track.proofs.Rules.{Rules}
 use Rattle.track.proofs.Paths.{south-down, south-up, north-up, north-down, face, covered}

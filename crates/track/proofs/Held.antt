@@ -1,32 +1,31 @@
 -- The switches and processors of a routed wafer hold what a walk of its view meets, along rows and, with the view transposed, along columns.
 -- Assumes nothing.
-use mathlib.Core.Path.{_≡_, refl, sym, ap, subst, _∙_}
-use mathlib.Core.Bool.{Bool, true, false, cond, not, _&&_, _||_, and-comm, false≢true, true≢false}
+use mathlib.Core.Path.{_≡_, refl, sym, ap, _∙_}
+use mathlib.Core.Bool.{Bool, true, false, _&&_, false≢true, true≢false}
 use mathlib.Core.List.{List}
 use mathlib.Core.Option.{Option, none, some}
-use Prim.Native.Nat.{ℕ, suc, _+_, _*_, _<_, _≤_}
+use Prim.Native.Nat.{ℕ, suc, _+_, _≤_}
 use native.Mathlib.Omega.{arith}
 use native.Mathlib.Numerals.{add-one}
 use borrow.Author.Tests.{leb-true, le-leb, ne-eqb}
 use lib.Dec.{T, eqb, leb, eqb→eq}
 use lib.ListN.{getD}
 use Rattle.array.specs.Place.{position, row, column, inner-at, inner, processor-at}
-use Rattle.array.specs.Map.{faulty, inner-fault}
-use Rattle.array.proofs.Bools.{and-true, by-bool}
+use Rattle.array.specs.Map.{faulty}
+use Rattle.array.proofs.Bools.{and-true}
 use Rattle.array.proofs.Places.{inner-at-holds}
 use Rattle.array.proofs.Fills.{tabulate-at}
 use Rattle.array.proofs.Formed.{Formed, formed}
-use Rattle.paths.specs.Path.{by-direction}
 use Rattle.plans.specs.Faults.{directed-faults}
 use Rattle.plans.specs.declared.Fault.{Fault}
 use Rattle.track.specs.Placement.{through}
 use Rattle.track.specs.Letters as letters
 use Rattle.track.specs.Letters.{letter, across-exists, down-exists, across-at, down-at, across-letters, down-letters}
-use Rattle.track.specs.Ports.{Wafer, Compass, W, E, N, S, Node, Processor, Across, Down, Port, _at_, stands, N–S, W–E, unjoined as unjoined-all, across-joins, down-joins, fault-joins, joins-nothing, joined}
+use Rattle.track.specs.Ports.{Wafer, Compass, W, E, N, S, Processor, Across, Down, Port, _at_, stands, N–S, W–E, unjoined as unjoined-all, across-joins, down-joins, fault-joins, joins-nothing, joined}
 use Rattle.track.specs.Link as link
 use Rattle.track.specs.Theorems.{Routed}
-use Rattle.track.proofs.View.{Dir, still, south, north, east, west, tr, moving, View, transposed, Source, Planned}
-use Rattle.track.proofs.Walks.{State, v0, v1, v2, v3, v4, state, vertical, Letter, sa, sb, sc, sd, no-switch, table, where-both, across, Joined, to, unjoined, missing, join, Inside, ends, runs, stuck, converted, inside, inside-of}
+use Rattle.track.proofs.View.{Dir, still, south, north, east, west, tr, moving, View, transposed, Planned}
+use Rattle.track.proofs.Walks.{State, v0, v1, v2, v3, v4, state, vertical, Letter, sa, sb, sc, sd, no-switch, table, where-both, across, Joined, to, unjoined, missing, join, ends, runs, inside, inside-of}
 use Rattle.track.proofs.Cross.{all, all-at}
 use Rattle.track.proofs.OnPath.{heading, by-heading}
 use Rattle.track.proofs.Seen.{view, planned}

@@ -1,17 +1,16 @@
 -- The east link of [i, j] enters the processor of [i, j+1] by its W port over at most three switches, and each port
 -- that it goes by is its own. From the rules between neighbours. Assumes nothing.
-use Prim.Native.Nat.{ℕ, zero, suc, _≤_, _<_}
+use Prim.Native.Nat.{ℕ, suc, _≤_}
 use native.Mathlib.Omega.{arith}
-use mathlib.Core.Path.{_≡_, refl, _∙_, sym, ap, subst}
-use mathlib.Core.List.{List, [], _∷_}
-use mathlib.Core.Bool.{Bool, true, false, _&&_, _||_}
+use mathlib.Core.Path.{_≡_, refl, _∙_, ap, subst}
+use mathlib.Core.Bool.{Bool}
 use lib.Dec.{T, lit≤}
-use Rattle.track.proofs.View.{Dir, still, south, north, east, west, tr, View}
-use Rattle.track.specs.Ports.{W, E, N, S}
-use Rattle.track.proofs.Walks.{State, v0, v1, v2, v3, v4, state, sb, Letter, vertical, horizontal, across, Inside, ends, runs, inside, inside-of, moved, placed, Run, switch, fault, enters, lost, too-long, last, walk, enter-W, switches, link, Place}
+use Rattle.track.proofs.View.{Dir, still, south, north, east, west, View}
+use Rattle.track.specs.Ports.{W, E}
+use Rattle.track.proofs.Walks.{State, v0, v1, v2, v3, v4, sb, Letter, vertical, horizontal, across, Inside, ends, runs, inside, placed, Run, switch, fault, enters, last, walk, switches, link, Place}
 use Rattle.track.proofs.Cross.{above, is, Rel, top, mid, bot, rel, row, leads}
 use Rattle.track.proofs.Runs.{is-eq, run, with-run, runs-on}
-use Rattle.track.proofs.Own.{Ref, of-switch, of-processor, ports, link-ports, line, line-of, name, stretch, stretch-of, owner, owner-at, owned-at, Owned, owns}
+use Rattle.track.proofs.Own.{of-processor, ports, link-ports, name, stretch, stretch-of, owner, owner-at, owned-at, Owned, owns}
 use Rattle.track.proofs.Rules.{Rules, upright, Means, means, under-1, under-2, over-3, over-4, at-row, led, flat, mine, here, healthy}
 
 abbrev pub enters-at : Place → Run

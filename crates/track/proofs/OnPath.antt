@@ -1,20 +1,20 @@
 -- A position is a member of a path's list exactly when its row and column lie on the path; and what openness and meeting say of members.
 -- Assumes nothing.
-use mathlib.Core.Path.{_≡_, refl, sym, ap, subst, _∙_}
-use mathlib.Core.Bool.{Bool, true, false, not, _&&_, _||_, false≢true}
+use mathlib.Core.Path.{_≡_, sym, ap, subst, _∙_}
+use mathlib.Core.Bool.{true, false, not, false≢true}
 use mathlib.Core.List.{List, [], _∷_}
 use mathlib.Core.Logic.{⊎-elim}
-use Prim.Native.Nat.{ℕ, zero, suc, _+_, _-_, _*_, _<_, _≤_}
+use Prim.Native.Nat.{ℕ, zero, suc, _+_, _-_, _<_, _≤_}
 use native.Mathlib.Omega.{arith}
-use borrow.Author.Tests.{eqb-true, eq-eqb, ne-eqb, leb-true, le-leb, not-true}
-use lib.Dec.{T, eqb, leb}
+use borrow.Author.Tests.{eqb-true, eq-eqb, le-leb, not-true}
+use lib.Dec.{T, eqb}
 use lib.ListN.{drop}
 use Rattle.array.specs.Place.{position, row, column}
 use Rattle.array.specs.Buffer.{span}
 use Rattle.array.specs.Map.{faulty}
 use Rattle.array.proofs.Bools.{and-true, or-true, or-left, or-right, by-eq, by-lt}
 use Rattle.array.proofs.Places.{Inner}
-use Rattle.paths.specs.Path.{by-direction, ahead, path-length, path, none-faulty, is-open, member, share, meet}
+use Rattle.paths.specs.Path.{by-direction, ahead, path-length, path, none-faulty, is-open, member, share}
 use Rattle.track.proofs.View.{Dir, still, south, north, east, west, View, transposed, on}
 use Rattle.track.proofs.Paths.{on-south, on-north}
 

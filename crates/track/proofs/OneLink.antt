@@ -1,8 +1,7 @@
 -- There is one link from a port.
 -- Assumes nothing.
-use Prim.Native.Nat.{ℕ}
 use mathlib.Core.Path.{_≡_, ap, subst}
-use mathlib.Core.Bool.{true, false, true≢false}
+use mathlib.Core.Bool.{true≢false}
 use Rattle.track.specs.Ports.{Wafer, Port}
 use Rattle.track.specs.Link.{Trail, enters, Link, last, next}
 

@@ -1,14 +1,14 @@
 -- Ports of a link, and the link that a port of the track belongs to. Assumes nothing.
 use Prim.Native.Nat.{ℕ, zero, suc}
-use mathlib.Core.Path.{_≡_, refl, _∙_, sym, ap}
+use mathlib.Core.Path.{_≡_, refl}
 use mathlib.Core.List.{List, [], _∷_}
-use mathlib.Core.Bool.{Bool, true, false, _&&_}
+use mathlib.Core.Bool.{Bool, true, false}
 use lib.Dec.{T}
 use Rattle.track.proofs.View.{Dir, still, south, north, east, west, View}
 use Rattle.track.specs.Ports.{Compass, W, E, N, S}
 use Rattle.track.proofs.Walks.{State, v0, v1, v2, v3, v4, Letter, sa, sb, sc, sd, no-switch, Run, switch, fault, enters, dead, lost, too-long, Place, before, vertical, across, placed, link}
-use Rattle.track.proofs.Cross.{Rel, top, mid, bot, row, leads, is}
-use Rattle.track.proofs.Runs.{is-eq, is-eq₂, is-eq₃, run}
+use Rattle.track.proofs.Cross.{Rel, top, mid, bot, row, leads}
+use Rattle.track.proofs.Runs.{is-eq₂, is-eq₃, run}
 
 -- a port of an across switch, or of a processor
 pub data Ref : Type 0 where

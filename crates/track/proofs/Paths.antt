@@ -1,10 +1,8 @@
 -- From a plan to the rules between neighbours: a processor on a path and the fault that the path starts at. Assumes nothing.
-use Prim.Native.Nat.{ℕ, zero, suc, _≤_, _<_}
+use Prim.Native.Nat.{ℕ, suc, _≤_, _<_}
 use native.Mathlib.Omega.{arith}
-use native.Mathlib.Decide.{decLt}
-use native.Mathlib.Nat.{not-suc-le-zero}
 use mathlib.Core.Path.{_≡_, refl, _∙_, sym, ap, subst}
-use mathlib.Core.Bool.{Bool, true, false, not, _&&_, _||_}
+use mathlib.Core.Bool.{Bool, true, false, _&&_}
 use lib.Dec.{T, leb, eqb, leb→le, le→leb, eqb→eq, eqb-refl}
 use Rattle.paths.specs.Path.{difference}
 use Rattle.track.proofs.View.{Dir, still, south, north, east, west, moving, View, transposed, inner, on, covers, Source, Planned}
@@ -21,9 +19,6 @@ on-moving w east fx fy x y t = tt
 on-moving w west fx fy x y t = tt
 
 -- what a test says
-pub and₂ : (a b : Bool) → T (a && b) → T a × T b
-and₂ a b t = (and-left a b t, and-right a b t)
-
 pub between : (a b c : ℕ) → T (leb a b && leb b c) → (a ≤ b) × (b ≤ c)
 between a b c t =
     (leb→le a b (and-left (leb a b) (leb b c) t), leb→le b c (and-right (leb a b) (leb b c) t))

@@ -1,7 +1,7 @@
 -- What a plan means between neighbours, and first consequences for one row of cells. Assumes nothing.
-use Prim.Native.Nat.{ℕ, zero, suc, _+_, _≤_, _<_}
+use Prim.Native.Nat.{ℕ, suc, _+_, _≤_, _<_}
 use native.Mathlib.Omega.{arith}
-use mathlib.Core.Path.{_≡_, refl, _∙_, sym, ap, subst}
+use mathlib.Core.Path.{_≡_, refl, _∙_, sym, subst}
 use mathlib.Core.Bool.{Bool, true, false, _&&_, _||_, and-comm}
 use borrow.Author.Tests.{ne-eqb, le-leb}
 use lib.Dec.{T, leb, eqb}
@@ -9,9 +9,9 @@ use Rattle.array.specs.Place.{processor-at}
 use Rattle.array.proofs.Bools.{and-both}
 use Rattle.track.specs.Letters.{across-exists}
 use Rattle.track.proofs.View.{Dir, still, south, north, east, west, tr, View}
-use Rattle.track.proofs.Walks.{State, v0, v1, v2, v3, v4, state, Letter, sb, table, where-both, vertical, horizontal, across, Inside, ends, inside, inside-of, moved, placed}
-use Rattle.track.proofs.Cross.{above, beside, is, Rel, top, mid, bot, rel, row, leads, rule, and-left, and-right, and-intro}
-use Rattle.track.proofs.Own.{line, line-of, name}
+use Rattle.track.proofs.Walks.{State, v0, v1, v2, v3, v4, state, sb, table, vertical, horizontal, across, ends, inside, inside-of, moved, placed}
+use Rattle.track.proofs.Cross.{above, beside, is, Rel, rel, row, leads, rule}
+use Rattle.track.proofs.Own.{line-of, name}
 
 pub record Rules (w : View) : Type 0 where
   pub vert : (x y : ℕ) → 1 ≤ y → y ≤ w .cols → x ≤ w .rows → T (above (vertical w x y) (vertical w (suc x) y))

@@ -1,10 +1,10 @@
 -- The run through one channel, from the letters of its switches. Assumes nothing.
-use Prim.Native.Nat.{ℕ, zero, suc}
-use mathlib.Core.Path.{_≡_, refl, _∙_, sym, ap}
-use mathlib.Core.Bool.{Bool, true, false, _&&_}
+use Prim.Native.Nat.{ℕ, suc}
+use mathlib.Core.Path.{_≡_, refl}
+use mathlib.Core.Bool.{_&&_}
 use lib.Dec.{T}
-use Rattle.track.specs.Ports.{Compass, W, E, N, S}
-use Rattle.track.proofs.Walks.{Letter, sa, sb, sc, sd, no-switch, Inside, Run, switch, fault, enters, join, pass, walk, enter-W}
+use Rattle.track.specs.Ports.{W, E, N, S}
+use Rattle.track.proofs.Walks.{Letter, sa, sb, sc, sd, no-switch, Inside, Run, switch, walk, enter-W}
 use Rattle.track.proofs.Cross.{Rel, top, mid, bot, row, leads, is, and-left, and-right}
 
 pub is-eq : (l m : Letter) → T (is l m) → l ≡ m

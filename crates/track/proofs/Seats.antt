@@ -1,21 +1,19 @@
 -- Where the cells of a routed wafer sit: each on a healthy processor, no two on the same one.
 -- Assumes nothing.
 use mathlib.Core.Path.{_≡_, refl, sym, ap, subst, _∙_}
-use mathlib.Core.Bool.{Bool, true, false, cond}
-use Prim.Native.Nat.{ℕ, zero, suc, _+_, _-_, _*_, _<_, _≤_}
+use mathlib.Core.Bool.{true, false, cond}
+use Prim.Native.Nat.{ℕ, zero, suc, _≤_}
 use native.Mathlib.Omega.{arith}
 use borrow.Author.Tests.{leb-true, le-leb, ne-eqb, eq-eqb, eqb-false}
-use lib.Dec.{T, eqb, leb}
-use lib.ListN.{getD}
-use Rattle.array.specs.Place.{position, row, column, inner-at, processor-at, processor}
-use Rattle.array.specs.Map.{mark-at, faulty, healthy, allowed}
-use Rattle.array.proofs.Bools.{and-both}
+use lib.Dec.{eqb, leb}
+use Rattle.array.specs.Place.{position, row, column, processor-at, processor}
+use Rattle.array.specs.Map.{mark-at, faulty, healthy}
 use Rattle.paths.specs.Path.{ahead}
-use Rattle.track.specs.Ports.{Wafer, Node, Processor}
+use Rattle.track.specs.Ports.{Wafer, Processor}
 use Rattle.track.specs.Follower.{processor-of}
-use Rattle.track.specs.Theorems.{Routed, Cell, holder, Cells-sit, Cells-alone}
+use Rattle.track.specs.Theorems.{Routed, holder, Cells-sit, Cells-alone}
 use Rattle.track.proofs.View.{Dir, still, south, north, east, west, tr, View, transposed, Planned}
-use Rattle.track.proofs.Walks.{Place, before, moved, placed}
+use Rattle.track.proofs.Walks.{Place, moved, placed}
 use Rattle.track.proofs.Rules.{processor-row, processor-column}
 use Rattle.track.proofs.Paths.{false-if, south-down, north-up, covered}
 use Rattle.track.proofs.FromPlan.{transposed-plan, untr}

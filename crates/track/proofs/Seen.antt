@@ -2,19 +2,19 @@
 -- Assumes nothing.
 use mathlib.Core.Path.{_≡_, refl, sym, ap, subst, _∙_}
 use mathlib.Core.Bool.{Bool, true, false, cond, _&&_, _||_, or-comm, false≢true}
-use mathlib.Core.List.{List, [], _∷_}
-use mathlib.Core.Logic.{_⊎_, inl, inr, ⊎-elim}
-use Prim.Native.Nat.{ℕ, suc, _+_, _-_, _*_, _<_, _≤_}
+use mathlib.Core.List.{List}
+use mathlib.Core.Logic.{⊎-elim}
+use Prim.Native.Nat.{ℕ, _<_, _≤_}
 use native.Mathlib.Omega.{arith}
-use borrow.Author.Tests.{eqb-true, eq-eqb, leb-true, le-leb, lt-ltb, ne-eqb}
-use lib.Dec.{T, eqb, leb, ltb}
+use borrow.Author.Tests.{leb-true, le-leb, lt-ltb, ne-eqb}
+use lib.Dec.{T, eqb, leb}
 use lib.ListN.{length, getD}
 use Rattle.array.specs.Place.{position, row, column, inner-at, inner}
-use Rattle.array.specs.Map.{mark-at, faulty, inner-faulty}
-use Rattle.array.proofs.Bools.{and-true, and-both, or-left, or-right, by-bool, by-eq, by-lt}
-use Rattle.array.proofs.Places.{Sized, Inner, inner-holds, inner-at-holds}
+use Rattle.array.specs.Map.{faulty, inner-faulty}
+use Rattle.array.proofs.Bools.{and-true, and-both, by-bool, by-eq, by-lt}
+use Rattle.array.proofs.Places.{Inner, inner-holds, inner-at-holds}
 use Rattle.array.proofs.Fills.{same-default}
-use Rattle.array.proofs.Filters.{passes-at, position-at}
+use Rattle.array.proofs.Filters.{position-at}
 use Rattle.array.proofs.Positions.{Index, position-index}
 use Rattle.array.proofs.Formed.{Formed}
 use Rattle.paths.specs.Path.{ahead, path, member, is-open, meet, south-north, east-west, near-miss, difference}

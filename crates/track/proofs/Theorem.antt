@@ -4,22 +4,19 @@
 use mathlib.Core.Path.{_≡_, refl, sym, ap, subst, _∙_}
 use mathlib.Core.List.{List, [], _∷_, List·Memᴰ, List·Memᴰ·cases-cons, List·Memᴰ·not-nil}
 use mathlib.Core.Logic.{_⊎_, inl, inr}
-use Prim.Native.Nat.{ℕ, zero, suc, _+_, _<_, _≤_}
+use Prim.Native.Nat.{ℕ, zero, suc, _≤_}
 use native.Mathlib.Omega.{arith}
 use native.Mathlib.Numerals.{add-one}
-use lib.Dec.{T}
 use Rattle.track.specs.Ports.{Wafer, Compass, W, E, N, S, Node, Processor, Across, Down, Port, _at_}
-use Rattle.track.specs.Link as link
-use Rattle.track.specs.Link.{Trail, Link, Enters}
+use Rattle.track.specs.Link.{Enters}
 use Rattle.track.specs.Pieces as pieces
-use Rattle.track.specs.Pieces.{Piece, Same, Same-two}
-use Rattle.track.specs.Follower.{processor-of}
-use Rattle.track.specs.Theorems.{Routed, Cell, holder, out, Neighbour, right, lower, Reaches, Links-reach, Neighbour-link, pieces-of, No-piece-shared}
-use Rattle.track.proofs.View.{Dir, still, south, north, east, west, tr, View, transposed, Planned}
-use Rattle.track.proofs.Walks.{Run, switch, fault, enters, dead, lost, too-long, last, Place, moved, placed, walk, across, inside, switches}
+use Rattle.track.specs.Pieces.{Piece, Same}
+use Rattle.track.specs.Theorems.{Routed, out, Neighbour, right, lower, Reaches, Links-reach, Neighbour-link, pieces-of, No-piece-shared}
+use Rattle.track.proofs.View.{Dir, still, south, north, east, west, tr, View, transposed}
+use Rattle.track.proofs.Walks.{Run, switch, fault, enters, dead, lost, too-long, Place, moved, placed, across, inside}
 use Rattle.track.proofs.Walks as walks
 use Rattle.track.proofs.Own.{of-switch, of-processor, ports, name, owner, Owned}
-use Rattle.track.proofs.Links.{Right, enters-at, link-right}
+use Rattle.track.proofs.Links.{link-right}
 use Rattle.track.proofs.FromPlan.{transposed-plan, plan-rules}
 use Rattle.track.proofs.Trails.{turned, unturned, down-turned, processor-turned, eastward, southward, trail, leaves, last-arrives, last-enters, trail-switches}
 use Rattle.track.proofs.Held.{view-of, planned-of, along-rows, along-columns}

@@ -2,9 +2,9 @@
 -- `sw x y` and `pr x y`, and its port p is their port `tp p`.
 -- Assumes nothing.
 use Prim.Native.Nat.{ℕ, zero, suc}
-use mathlib.Core.Path.{_≡_, refl, sym, ap, _∙_}
+use mathlib.Core.Path.{_≡_, refl, ap}
 use mathlib.Core.Bool.{Bool, true, false, true≢false}
-use mathlib.Core.Option.{Option, none, some}
+use mathlib.Core.Option.{Option, some}
 use lib.Dec.{T}
 use Rattle.track.specs.Ports.{Wafer, Compass, W, E, N, S, Node, Processor, Across, Down, Port, _at_, neighbour, stands, stretch-from}
 use Rattle.track.specs.Link as link

@@ -1,9 +1,9 @@
 -- Of the entries printed x in the table of letters only 2 beside 2 and 3 beside 3 occur in a plan.
 -- Assumes nothing.
-use mathlib.Core.Path.{_≡_, refl, sym, ap, _∙_}
+use mathlib.Core.Path.{_≡_, sym, ap, _∙_}
 use mathlib.Core.Bool.{Bool, true, _&&_, _||_}
-use mathlib.Core.Logic.{_⊎_, inl, inr, ⊎-elim}
-use Prim.Native.Nat.{ℕ, suc, _+_, _≤_}
+use mathlib.Core.Logic.{inl, inr, ⊎-elim}
+use Prim.Native.Nat.{ℕ, suc, _+_}
 use native.Mathlib.Omega.{arith}
 use borrow.Author.Tests.{eqb-true}
 use lib.Dec.{T, eqb}
@@ -11,8 +11,7 @@ use Rattle.array.specs.Place.{position, row, column, processor-at}
 use Rattle.array.proofs.Bools.{and-true, or-true}
 use Rattle.paths.specs.Path.{member}
 use Rattle.track.specs.Letters.{across-exists, down-exists}
-use Rattle.track.specs.Ports.{Wafer}
-use Rattle.track.specs.Theorems.{Routed, printed-x, Two-or-three, vertical-of, horizontal-of, X-entries, Few-x-entries}
+use Rattle.track.specs.Theorems.{printed-x, Two-or-three, vertical-of, horizontal-of, Few-x-entries}
 use Rattle.track.proofs.View.{transposed}
 use Rattle.track.proofs.Walks.{State, vertical}
 use Rattle.track.proofs.Cross.{beside, all, all-at, given, use-given, and-intro}
