@@ -1,8 +1,9 @@
 -- The crossing of one channel: from the routing states of six processors, by one computed table. Assumes nothing.
 use Prim.Native.Nat.{ℕ, suc}
 use mathlib.Core.Bool.{Bool, true, false, _&&_}
-use lib.Dec.{T}
-use Rattle.track.proofs.Walks.{State, v0, v1, v2, v3, v4, Letter, sa, sb, sc, sd, no-switch, table}
+use lib.Dec.{T, eqb}
+use Rattle.track.specs.Letters.{letter, letters}
+use Rattle.track.proofs.Walks.{State, v0, v1, v2, v3, v4, Letter, sa, sb, sc, sd, code, table}
 
 -- states that may stand one above the other, and side by side, in a plan
 abbrev pub above : State → State → Bool
@@ -60,31 +61,7 @@ beside v4 v3 = true
 beside v4 v4 = true
 
 abbrev pub is : Letter → Letter → Bool
-is sa sa = true
-is sa sb = false
-is sa sc = false
-is sa sd = false
-is sa no-switch = false
-is sb sa = false
-is sb sb = true
-is sb sc = false
-is sb sd = false
-is sb no-switch = false
-is sc sa = false
-is sc sb = false
-is sc sc = true
-is sc sd = false
-is sc no-switch = false
-is sd sa = false
-is sd sb = false
-is sd sc = false
-is sd sd = true
-is sd no-switch = false
-is no-switch sa = false
-is no-switch sb = false
-is no-switch sc = false
-is no-switch sd = false
-is no-switch no-switch = true
+is l m = eqb (code l) (code m)
 
 -- where, of the rows k, k+1, k+2, a cell of row k+1 is placed
 pub data Rel : Type 0 where
@@ -154,6 +131,7 @@ right u′ v′ u v u″ v″ =
 pub everywhere :
     T
     (all (λ u′. all (λ v′. all (λ u. all (λ v. all (λ u″. all (λ v″. right u′ v′ u v u″ v″)))))))
+unfolding letter letters
 everywhere = tt
 
 pub rule :

@@ -21,32 +21,17 @@ use Rattle.plans.specs.declared.Fault.{Fault}
 use Rattle.track.specs.Placement.{through}
 use Rattle.track.specs.Letters as letters
 use Rattle.track.specs.Letters.{letter, across-exists, down-exists, across-at, down-at, across-letters, down-letters}
-use Rattle.track.specs.Ports.{Wafer, Compass, W, E, N, S, Processor, Across, Down, Port, _at_, stands, N–S, W–E, unjoined as unjoined-all, across-joins, down-joins, fault-joins, joins-nothing, joined}
+use Rattle.track.specs.Ports.{Wafer, Compass, W, E, N, S, Processor, Across, Down, Port, _at_, stands, N–S, W–E, W–S·E–N, W–N·E–S, unjoined as unjoined-all, across-joins, down-joins, fault-joins, joins-nothing, joined}
 use Rattle.track.specs.Link as link
 use Rattle.track.specs.Theorems.{Routed}
 use Rattle.track.proofs.View.{Dir, still, south, north, east, west, tr, moving, View, transposed, Planned}
-use Rattle.track.proofs.Walks.{State, v0, v1, v2, v3, v4, state, vertical, Letter, sa, sb, sc, sd, no-switch, table, where-both, across, Joined, to, unjoined, missing, join, ends, runs, inside, inside-of}
+use Rattle.track.proofs.Walks.{State, state, state-number, code, as-joined, vertical, Letter, sa, sb, sc, sd, no-switch, table, where-both, across, Joined, to, unjoined, missing, join, ends, runs, inside, inside-of}
 use Rattle.track.proofs.Cross.{all, all-at}
 use Rattle.track.proofs.OnPath.{heading, by-heading}
 use Rattle.track.proofs.Seen.{view, planned}
 use Rattle.track.proofs.Paths.{moving-not-still, own-direction, true-if}
 use Rattle.track.proofs.Rules.{and-none, processor-turns}
 use Rattle.track.proofs.Trails.{there, turned, unturned, down-turned, processor-turned, Alike}
-
--- states and letters as document 01 writes them
-abbrev pub state-number : State → ℕ
-state-number v0 = 0
-state-number v1 = 1
-state-number v2 = 2
-state-number v3 = 3
-state-number v4 = 4
-
-abbrev pub code : Letter → ℕ
-code sa = 97
-code sb = 98
-code sc = 99
-code sd = 100
-code no-switch = 0
 
 pub vertical-is : (d : ℕ) (f : Bool) → letters.vertical d f ≡ state-number (state (heading d) f)
 vertical-is d true =
@@ -81,23 +66,15 @@ as-option (to q) = some q
 as-option unjoined = none
 as-option missing = none
 
+kept : (o : Option Compass) → o ≡ as-option (as-joined o)
+kept none = refl
+kept (some q) = refl
+
 across-joins-is : (l : Letter) (p : Compass) → across-joins (code l) p ≡ as-option (join l p)
-across-joins-is sa W = refl
-across-joins-is sa E = refl
-across-joins-is sa N = refl
-across-joins-is sa S = refl
-across-joins-is sb W = refl
-across-joins-is sb E = refl
-across-joins-is sb N = refl
-across-joins-is sb S = refl
-across-joins-is sc W = refl
-across-joins-is sc E = refl
-across-joins-is sc N = refl
-across-joins-is sc S = refl
-across-joins-is sd W = refl
-across-joins-is sd E = refl
-across-joins-is sd N = refl
-across-joins-is sd S = refl
+across-joins-is sa p = kept (N–S p)
+across-joins-is sb p = kept (W–E p)
+across-joins-is sc p = kept (W–S·E–N p)
+across-joins-is sd p = kept (W–N·E–S p)
 across-joins-is no-switch p = refl
 
 abbrev as-turned : Joined → Option Compass

@@ -1,38 +1,21 @@
 -- The run through one channel, from the letters of its switches. Assumes nothing.
 use Prim.Native.Nat.{ℕ, suc}
-use mathlib.Core.Path.{_≡_, refl}
+use mathlib.Core.Path.{_≡_, refl, sym, ap, _∙_}
 use mathlib.Core.Bool.{_&&_}
-use lib.Dec.{T}
+use lib.Dec.{T, eqb→eq}
 use Rattle.track.specs.Ports.{W, E, N, S}
-use Rattle.track.proofs.Walks.{Letter, sa, sb, sc, sd, no-switch, Inside, Run, switch, walk, enter-W}
+use Rattle.track.proofs.Walks.{Letter, sa, sb, sc, sd, no-switch, code, decode, Inside, Run, switch, walk, enter-W}
 use Rattle.track.proofs.Cross.{Rel, top, mid, bot, row, leads, is, and-left, and-right}
 
+decoded : (l : Letter) → decode (code l) ≡ l
+decoded sa = refl
+decoded sb = refl
+decoded sc = refl
+decoded sd = refl
+decoded no-switch = refl
+
 pub is-eq : (l m : Letter) → T (is l m) → l ≡ m
-is-eq sa sa t = refl
-is-eq sa sb t = absurd t
-is-eq sa sc t = absurd t
-is-eq sa sd t = absurd t
-is-eq sa no-switch t = absurd t
-is-eq sb sa t = absurd t
-is-eq sb sb t = refl
-is-eq sb sc t = absurd t
-is-eq sb sd t = absurd t
-is-eq sb no-switch t = absurd t
-is-eq sc sa t = absurd t
-is-eq sc sb t = absurd t
-is-eq sc sc t = refl
-is-eq sc sd t = absurd t
-is-eq sc no-switch t = absurd t
-is-eq sd sa t = absurd t
-is-eq sd sb t = absurd t
-is-eq sd sc t = absurd t
-is-eq sd sd t = refl
-is-eq sd no-switch t = absurd t
-is-eq no-switch sa t = absurd t
-is-eq no-switch sb t = absurd t
-is-eq no-switch sc t = absurd t
-is-eq no-switch sd t = absurd t
-is-eq no-switch no-switch t = refl
+is-eq l m t = sym (decoded l) ∙ ap decode (eqb→eq (code l) (code m) t) ∙ decoded m
 
 pub is-eq₂ : (l m l′ m′ : Letter) → T (is l m && is l′ m′) → (l ≡ m) × (l′ ≡ m′)
 is-eq₂ l m l′ m′ t =

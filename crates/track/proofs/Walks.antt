@@ -3,8 +3,9 @@
 -- Assumes nothing.
 use Prim.Native.Nat.{ℕ, zero, suc}
 use mathlib.Core.Bool.{Bool, true, false}
-use Rattle.track.specs.Letters.{across-exists}
-use Rattle.track.specs.Ports.{Compass, W, E, N, S}
+use mathlib.Core.Option.{Option, none, some}
+use Rattle.track.specs.Letters.{a, b, c, d, letter, across-exists}
+use Rattle.track.specs.Ports.{Compass, W, E, N, S, N–S, W–E, W–S·E–N, W–N·E–S, by-letter}
 use Rattle.track.proofs.View.{Dir, still, south, north, east, west, tr, View}
 
 pub data State : Type 0 where
@@ -26,33 +27,27 @@ vertical w x y = state (w .path x y) (w .faulty x y)
 pub data Letter : Type 0 where
   sa sb sc sd no-switch : Letter
 
--- west state as row, east state along it; b where the document has x
+-- states and letters as document 01 writes them
+abbrev pub state-number : State → ℕ
+state-number v0 = 0
+state-number v1 = 1
+state-number v2 = 2
+state-number v3 = 3
+state-number v4 = 4
+
+abbrev pub code : Letter → ℕ
+code sa = a
+code sb = b
+code sc = c
+code sd = d
+code no-switch = 0
+
+abbrev pub decode : ℕ → Letter
+decode l = by-letter l sa sb sc sd no-switch
+
+-- the letter of two states
 abbrev pub table : State → State → Letter
-table v0 v0 = sb
-table v0 v1 = sc
-table v0 v2 = sc
-table v0 v3 = sd
-table v0 v4 = sd
-table v1 v0 = sd
-table v1 v1 = sb
-table v1 v2 = sd
-table v1 v3 = sb
-table v1 v4 = sb
-table v2 v0 = sd
-table v2 v1 = sc
-table v2 v2 = sb
-table v2 v3 = sa
-table v2 v4 = sb
-table v3 v0 = sc
-table v3 v1 = sb
-table v3 v2 = sa
-table v3 v3 = sb
-table v3 v4 = sd
-table v4 v0 = sc
-table v4 v1 = sb
-table v4 v2 = sb
-table v4 v3 = sc
-table v4 v4 = sb
+table s t = decode (letter (state-number s) (state-number t))
 
 abbrev pub where-both : Bool → Letter → Letter
 where-both true l = l
@@ -67,24 +62,16 @@ pub data Joined : Type 0 where
   unjoined : Joined
   missing : Joined
 
+abbrev pub as-joined : Option Compass → Joined
+as-joined none = unjoined
+as-joined (some q) = to q
+
 -- the port that a letter joins to a port
 abbrev pub join : Letter → Compass → Joined
-join sa N = to S
-join sa S = to N
-join sa W = unjoined
-join sa E = unjoined
-join sb W = to E
-join sb E = to W
-join sb N = unjoined
-join sb S = unjoined
-join sc W = to S
-join sc S = to W
-join sc E = to N
-join sc N = to E
-join sd W = to N
-join sd N = to W
-join sd E = to S
-join sd S = to E
+join sa p = as-joined (N–S p)
+join sb p = as-joined (W–E p)
+join sc p = as-joined (W–S·E–N p)
+join sd p = as-joined (W–N·E–S p)
 join no-switch p = missing
 
 -- what an across link meets in a processor: it ends there, it runs through from W to E, or its track ends at an unjoined port

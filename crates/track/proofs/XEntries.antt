@@ -13,11 +13,11 @@ use Rattle.paths.specs.Path.{member}
 use Rattle.track.specs.Letters.{across-exists, down-exists}
 use Rattle.track.specs.Theorems.{printed-x, Two-or-three, vertical-of, horizontal-of, Few-x-entries}
 use Rattle.track.proofs.View.{transposed}
-use Rattle.track.proofs.Walks.{State, vertical}
+use Rattle.track.proofs.Walks.{State, state-number, vertical}
 use Rattle.track.proofs.Cross.{beside, all, all-at, given, use-given, and-intro}
 use Rattle.track.proofs.Paths.{true-if}
 use Rattle.track.proofs.FromPlan.{near, transposed-plan}
-use Rattle.track.proofs.Held.{state-number, view-of, within, formed-of, planned-of, vertical-held, horizontal-held}
+use Rattle.track.proofs.Held.{view-of, within, formed-of, planned-of, vertical-held, horizontal-held}
 
 abbrev two-or-three : ℕ → ℕ → Bool
 two-or-three a b = (eqb a 2 && eqb b 2) || (eqb a 3 && eqb b 3)
