@@ -21,8 +21,8 @@ use Rattle.track.specs.declared.Landing.{Landing}
 use Rattle.track.specs.declared.Followed.{Followed}
 use Rattle.track.specs.declared.Followed.the-variants.{Entered}
 use Rattle.track.specs.declared.Followed.the-variants.{Refused}
-use Rattle.track.specs.Theorems as theorems
-use Rattle.track.specs.Theorems.{Passed, begun, by-switch, by-fault, Track-ends, Fourth-switch, fourth, Follower-refuses}
+use Rattle.track.specs.Refusals as refusals
+use Rattle.track.specs.Refusals.{Passed, begun, by-switch, by-fault, Track-ends, Fourth-switch, fourth, Follower-refuses}
 use Rattle.track.proofs.OneLink.{one-link}
 
 -- what a port leads to
@@ -418,14 +418,14 @@ module _ (w : Wafer) (cell side : ℕ) where
       (fourth (subst (λ (n : ℕ). Passed w cell side n c o) (eqb-true k 3 z) d) e s))
       (λ z.
       let n : (k ≡ 3 → ⊥) = eqb-false k 3 z in
-      for-17 (position-of (i .node)) x (sym (unjoined-switch (w .grid) c k i s n) ∙ g) (theorems.unjoined-switch d (omega arith) e s h)))
-      (λ s. for-17 c x (sym (unjoined-fault (w .grid) c k i s) ∙ g) (theorems.unjoined-fault d (omega arith) e s h))
+      for-17 (position-of (i .node)) x (sym (unjoined-switch (w .grid) c k i s n) ∙ g) (refusals.unjoined-switch d (omega arith) e s h)))
+      (λ s. for-17 c x (sym (unjoined-fault (w .grid) c k i s) ∙ g) (refusals.unjoined-fault d (omega arith) e s h))
 
   reason-ending : (c k r : ℕ) (o i : Port) → Passed w cell side k c o → k + r ≡ 3 → (x : Refusal)
       → stretch-from w o ≡ some i → inside w i ≡ ends → judged (w .grid) c k (enters i) ≡ Refused x → Reason w cell side x
   reason-ending c k r o i d b x e h g =
       by-bool (faulty (w .grid) (position-of (i .node)))
-      (λ z. for-17 c x (sym (judged-faulty (w .grid) c k i z) ∙ g) (theorems.faulty-spare d (omega arith) e h z))
+      (λ z. for-17 c x (sym (judged-faulty (w .grid) c k i z) ∙ g) (refusals.faulty-spare d (omega arith) e h z))
       (λ z. not-refused _ x (sym (judged-healthy (w .grid) c k i z) ∙ g))
 
   reasons : (f : ℕ) → Reasons f
@@ -437,7 +437,7 @@ module _ (w : Wafer) (cell side : ℕ) where
 
       by-step : ((i q : Port) → stretch-from w o ≡ some i → inside w i ≡ on q → judged (w .grid) c k (passes i q (run w f q)) ≡ Refused x → Reason w cell side x)
           → Step w o → Reason w cell side x
-      by-step ih (nowhere s) = for-17 c x (sym (judged-none c k) ∙ as-run no-stretch (run-nowhere w f o s)) (theorems.missing-switch d (omega arith) s)
+      by-step ih (nowhere s) = for-17 c x (sym (judged-none c k) ∙ as-run no-stretch (run-nowhere w f o s)) (refusals.missing-switch d (omega arith) s)
       by-step ih (ending i s h) = reason-ending c k r o i d b x s h (as-run (enters i) (run-ending w f o i s h))
       by-step ih (passing i q s h) = ih i q s h (as-run (passes i q (run w f q)) (run-passing w f o i q s h))
       by-step ih (stopping i s h) = reason-unjoined c k r o i d b x s h (as-run (unjoined-at i) (run-stopping w f o i s h))
@@ -459,15 +459,15 @@ module _ (w : Wafer) (cell side : ℕ) where
       ∙ so-far k c (suc f) o′ d h (omega arith)
 
   refuses-17 : (p : ℕ) → Track-ends w cell side p → followed w cell side ≡ refused 17 p
-  refuses-17 p (theorems.unjoined-switch {k = k} {c = c} {o = o} {i = i} d b e s h) =
+  refuses-17 p (refusals.unjoined-switch {k = k} {c = c} {o = o} {i = i} d b e s h) =
       sym (so-far k c 8 o d (omega arith) (omega arith))
       ∙ ap (judged (w .grid) c k) (run-stopping w 7 o i e h)
       ∙ unjoined-switch (w .grid) c k i s (λ z. omega arith)
-  refuses-17 p (theorems.unjoined-fault {k = k} {o = o} {i = i} d b e s h) =
+  refuses-17 p (refusals.unjoined-fault {k = k} {o = o} {i = i} d b e s h) =
       sym (so-far k p 8 o d b (omega arith)) ∙ ap (judged (w .grid) p k) (run-stopping w 7 o i e h) ∙ unjoined-fault (w .grid) p k i s
-  refuses-17 p (theorems.missing-switch {k = k} {o = o} d b e) =
+  refuses-17 p (refusals.missing-switch {k = k} {o = o} d b e) =
       sym (so-far k p 8 o d b (omega arith)) ∙ ap (judged (w .grid) p k) (run-nowhere w 7 o e) ∙ judged-none p k
-  refuses-17 p (theorems.faulty-spare {k = k} {o = o} {i = i} d b e h z) =
+  refuses-17 p (refusals.faulty-spare {k = k} {o = o} {i = i} d b e h z) =
       sym (so-far k p 8 o d b (omega arith)) ∙ ap (judged (w .grid) p k) (run-ending w 7 o i e h) ∙ judged-faulty (w .grid) p k i z
 
   refuses-18 : (p : ℕ) → Fourth-switch w cell side p → followed w cell side ≡ refused 18 p

@@ -18,3 +18,4 @@ pub mod OneLink
 pub mod Theorem
 pub mod XEntries
 pub mod Follows
+pub mod Accepted

@@ -1,25 +1,24 @@
 -- Document 01, "Placement and routing": what is proved of placement, links and letters once a plan is found, for every N and M from 1 to 30.
 -- Assumes nothing.
-use Prim.Native.Nat.{ℕ, suc, _+_, _*_, _≤_, _<_}
+use Prim.Native.Nat.{ℕ, _+_, _*_, _≤_, _<_}
 use mathlib.Core.Path.{_≡_}
-use mathlib.Core.Bool.{Bool, true, false}
-use mathlib.Core.Logic.{_⊎_, _↔_}
-use mathlib.Core.Option.{none, some}
+use mathlib.Core.Bool.{Bool, true}
+use mathlib.Core.Logic.{_⊎_}
 use mathlib.Core.List.{List, [], _∷_, List·Memᴰ}
+use lib.ListN.{getD}
 use Rattle.array.specs.Place.{position, row, column, processor}
-use Rattle.array.specs.Map.{healthy, faulty, well-formed}
-use Rattle.array.specs.Tests.{refusal}
-use Rattle.array.specs.declared.Refusal.{Refusal}
+use Rattle.array.specs.Map.{healthy, well-formed}
 use Rattle.array.specs.declared.Verdict.the-variants.{Accepted}
 use Rattle.paths.specs.Path.{member}
 use Rattle.plans.specs.Faults.{faults, directions-at, directed-faults}
 use Rattle.plans.specs.Plan.{Plan}
+use Rattle.track.specs.Placement.{placement}
 use Rattle.track.specs.Letters.{across-exists, down-exists, across-letters, down-letters, vertical-at, horizontal-at}
-use Rattle.track.specs.Ports.{Wafer, Compass, W, N, Port, _at_, stretch-from}
-use Rattle.track.specs.Link.{Trail, inside, ends, on, stops, Link, Enters, is-switch, switches}
+use Rattle.track.specs.Ports.{Wafer, Compass, W, N, Port, _at_}
+use Rattle.track.specs.Link.{Trail, Link, Enters, switches}
 use Rattle.track.specs.Pieces.{Piece, pieces, Same}
-use Rattle.track.specs.Follower.{position-of, processor-of, out-of, seat-of, refused, followed}
-use Rattle.track.specs.declared.Followed.the-variants.{Refused}
+use Rattle.track.specs.Follower.{port-number, processor-of, out-of, seat-of, followed, switches-test}
+use Rattle.track.specs.declared.Followed.the-variants.{Entered}
 
 -- a well-formed map, directions that are a plan at its inner faults, and the switches that routing sets for them
 pub record Routed (w : Wafer) : Type 0 where
@@ -59,6 +58,16 @@ abbrev pub Links-reach : Type 0
 Links-reach =
     (w : Wafer) → Routed w → (i j side k l : ℕ) (port : Compass) → Neighbour w i j side k l port → Reaches w i j side k l port
 
+-- the follower's answer from [i, j]: the position that holds [k, l], the port's number and at most three switches
+pub record Arrives (w : Wafer) (i j side k l : ℕ) (port : Compass) : Type 0 where
+  pub passed : ℕ
+  pub few : passed ≤ 3
+  pub answer : followed w (position i j) side ≡ Entered (record { position = holder w k l; port = port-number port; switches = passed })
+
+abbrev pub Follower-arrives : Type 0
+Follower-arrives =
+    (w : Wafer) → Routed w → (i j side k l : ℕ) (port : Compass) → Neighbour w i j side k l port → Arrives w i j side k l port
+
 -- a link to a neighbour, named by its cell and side
 pub record Neighbour-link (w : Wafer) : Type 0 where
   pub i : ℕ
@@ -91,6 +100,18 @@ abbrev pub Cells-alone : Type 0
 Cells-alone =
     (w : Wafer) → Routed w → (i j k l : ℕ) → Cell w i j → Cell w k l → holder w i j ≡ holder w k l → (i ≡ k) × (j ≡ l)
 
+-- the placement holds these positions
+abbrev pub Placement-holds : Type 0
+Placement-holds =
+    (w : Wafer) → Routed w → (i j : ℕ) → Cell w i j
+    → getD (placement (w .rows) (w .columns) (w .grid) (w .directions)) (position i j) 0 ≡ holder w i j
+
+-- 16 does not apply to the switches that routing sets, for whatever directions
+abbrev pub Switches-pass : Type 0
+Switches-pass =
+    (w : Wafer) → w .across ≡ across-letters (w .rows) (w .columns) (w .grid) (w .directions)
+    → w .down ≡ down-letters (w .rows) (w .columns) (w .grid) (w .directions) → switches-test w ≡ Accepted
+
 -- the entries of the table of letters that are printed x, by west state times five plus east state
 abbrev pub printed-x : ℕ → ℕ → Bool
 printed-x west east = member (west * 5 + east) (8 ∷ 9 ∷ 12 ∷ 14 ∷ 16 ∷ 18 ∷ 21 ∷ 22 ∷ [])
@@ -114,35 +135,3 @@ pub record X-entries (w : Wafer) : Type 0 where
 
 abbrev pub Few-x-entries : Type 0
 Few-x-entries = (w : Wafer) → Routed w → X-entries w
-
--- A link's run on any wafer, as far as it has come: it has passed k switches, the last of them at c, or c is the cell's processor if none
--- was, and it leaves by a port.
-pub data Passed (w : Wafer) (cell side : ℕ) : ℕ → ℕ → Port → Type 0 where
-  begun : Passed w cell side 0 (seat-of w cell) (out-of (seat-of w cell) side)
-  by-switch : {k c : ℕ} {o i q : Port} → Passed w cell side k c o → stretch-from w o ≡ some i → is-switch (i .node) ≡ true → inside w i ≡ on q
-      → Passed w cell side (suc k) (position-of (i .node)) q
-  by-fault : {k c : ℕ} {o i q : Port} → Passed w cell side k c o → stretch-from w o ≡ some i → is-switch (i .node) ≡ false → inside w i ≡ on q
-      → Passed w cell side k c q
-
--- 17: the track ends, before a fourth switch, at an unjoined port of a switch, which was entered, or of a fault, at a missing switch or at a
--- faulty spare; the place is the last switch entered, or the cell's processor if none was
-pub data Track-ends (w : Wafer) (cell side : ℕ) : ℕ → Type 0 where
-  unjoined-switch : {k c : ℕ} {o i : Port} → Passed w cell side k c o → k < 3 → stretch-from w o ≡ some i → is-switch (i .node) ≡ true
-      → inside w i ≡ stops → Track-ends w cell side (position-of (i .node))
-  unjoined-fault : {k c : ℕ} {o i : Port} → Passed w cell side k c o → k ≤ 3 → stretch-from w o ≡ some i → is-switch (i .node) ≡ false
-      → inside w i ≡ stops → Track-ends w cell side c
-  missing-switch : {k c : ℕ} {o : Port} → Passed w cell side k c o → k ≤ 3 → stretch-from w o ≡ none → Track-ends w cell side c
-  faulty-spare : {k c : ℕ} {o i : Port} → Passed w cell side k c o → k ≤ 3 → stretch-from w o ≡ some i → inside w i ≡ ends
-      → faulty (w .grid) (position-of (i .node)) ≡ true → Track-ends w cell side c
-
--- 18: a fourth switch would be entered; the place is that switch
-pub data Fourth-switch (w : Wafer) (cell side : ℕ) : ℕ → Type 0 where
-  fourth : {c : ℕ} {o i : Port} → Passed w cell side 3 c o → stretch-from w o ≡ some i → is-switch (i .node) ≡ true
-      → Fourth-switch w cell side (position-of (i .node))
-
--- the follower refuses a link with 17 and 18 exactly then, and with no other number
-pub record Follower-refuses : Type 0 where
-  pub seventeen : (w : Wafer) (cell side p : ℕ) → (followed w cell side ≡ refused 17 p) ↔ Track-ends w cell side p
-  pub eighteen : (w : Wafer) (cell side p : ℕ) → (followed w cell side ≡ refused 18 p) ↔ Fourth-switch w cell side p
-  pub no-other : (w : Wafer) (cell side : ℕ) (r : Refusal) → followed w cell side ≡ Refused r
-      → (r ≡ refusal 17 (r .place) 0) ⊎ (r ≡ refusal 18 (r .place) 0)
