@@ -1,4 +1,5 @@
--- The crossing of one channel: from the routing states of six processors, by one computed table. Assumes nothing.
+-- The letters of one channel lead a row of cells across it: from the routing states of six processors, by one computed test.
+-- Assumes nothing.
 use Prim.Native.Nat.{ℕ, suc}
 use mathlib.Core.Bool.{Bool, true, false, _&&_}
 use lib.Dec.{T, eqb}

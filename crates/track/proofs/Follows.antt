@@ -1,4 +1,5 @@
--- The follower's answer is that of the link itself, on any wafer: it enters where the link does and nowhere else, and seven steps are enough.
+-- The follower's answer is that of the link itself, on any wafer: it enters where the link does and nowhere else, refuses with 17 and 18 where
+-- document 01 says, and seven steps are enough.
 -- Assumes nothing.
 use Prim.Native.Nat.{ℕ, zero, suc, _+_, _*_, _≤_}
 use mathlib.Core.Path.{_≡_, refl, sym, ap, subst, _∙_}

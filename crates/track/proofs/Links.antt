@@ -1,5 +1,6 @@
 -- The east link of [i, j] enters the processor of [i, j+1] by its W port over at most three switches, and each port
--- that it goes by is its own. From the rules between neighbours. Assumes nothing.
+-- that it goes by is its own. From the rules between neighbours.
+-- Assumes nothing.
 use Prim.Native.Nat.{ℕ, suc, _≤_}
 use native.Mathlib.Omega.{arith}
 use mathlib.Core.Path.{_≡_, refl, _∙_, ap, subst}

@@ -1,4 +1,5 @@
--- Ports of a link, and the link that a port of the track belongs to. Assumes nothing.
+-- The link that a port of the track belongs to, and that the ports of a crossing belong to its row of cells.
+-- Assumes nothing.
 use Prim.Native.Nat.{ℕ, zero, suc}
 use mathlib.Core.Path.{_≡_, refl}
 use mathlib.Core.List.{List, [], _∷_}

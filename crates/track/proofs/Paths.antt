@@ -1,9 +1,11 @@
--- From a plan to the rules between neighbours: a processor on a path and the fault that the path starts at. Assumes nothing.
+-- A processor on a path of a plan and its neighbours: paths go on to their spare, start at their fault, and face each other only at starts.
+-- Assumes nothing.
 use Prim.Native.Nat.{ℕ, suc, _≤_, _<_}
 use native.Mathlib.Omega.{arith}
 use mathlib.Core.Path.{_≡_, refl, _∙_, sym, ap, subst}
 use mathlib.Core.Bool.{Bool, true, false, _&&_}
 use lib.Dec.{T, leb, eqb, leb→le, le→leb, eqb→eq, eqb-refl}
+use Rattle.array.proofs.Places.{inner-at-holds}
 use Rattle.paths.specs.Path.{difference}
 use Rattle.track.proofs.View.{Dir, still, south, north, east, west, moving, View, transposed, inner, on, covers, Source, Planned}
 use Rattle.track.proofs.Cross.{and-left, and-right, and-intro}
@@ -22,12 +24,6 @@ on-moving w west fx fy x y t = tt
 pub between : (a b c : ℕ) → T (leb a b && leb b c) → (a ≤ b) × (b ≤ c)
 between a b c t =
     (leb→le a b (and-left (leb a b) (leb b c) t), leb→le b c (and-right (leb a b) (leb b c) t))
-
-pub is-inner : (w : View) (x y : ℕ) → T (inner w x y) → (1 ≤ x) × (x ≤ w .rows) × (1 ≤ y) × (y ≤ w .cols)
-is-inner w x y t =
-    let a = between 1 x (w .rows) (and-left (leb 1 x && leb x (w .rows)) (leb 1 y && leb y (w .cols)) t) in
-    let b = between 1 y (w .cols) (and-right (leb 1 x && leb x (w .rows)) (leb 1 y && leb y (w .cols)) t) in
-    (a .0, a .1, b .0, b .1)
 
 pub source-covers : (w : View) (d : Dir) (x y : ℕ) (s : Source w d x y) → T (covers w (s .row) (s .col) x y)
 source-covers w d x y s = rw (s .is) (s .on-it)
@@ -163,10 +159,10 @@ module _ (w : View) (p : Planned w) where
   -- an inner fault is on its own path
   pub fault-path : (x y : ℕ) → T (inner w x y) → T (w .faulty x y) → w .path x y ≡ w .dir x y
   fault-path x y i f =
-      let b = is-inner w x y i in
+      let b = inner-at-holds (w .rows) (w .cols) x y (true-if (inner w x y) i) in
       let m = not-still-moving (w .dir x y) (p .each x y i f) in
       p .path-of (w .dir x y) x y
-      (record { row = x; col = y; is = refl; on-it = own-path (w .dir x y) x y m (b .1) (b .3) })
+      (record { row = x; col = y; is = refl; on-it = own-path (w .dir x y) x y m (b .row-high) (b .column-high) })
 
   pub covered : (x y : ℕ) → T (inner w x y) → T (w .faulty x y) → w .path x y ≡ still → ⊥
   covered x y i f e = p .each x y i f (sym (fault-path x y i f) ∙ e)

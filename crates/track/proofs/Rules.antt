@@ -1,4 +1,5 @@
--- What a plan means between neighbours, and first consequences for one row of cells. Assumes nothing.
+-- What a plan means between neighbours, and first consequences for one row of cells.
+-- Assumes nothing.
 use Prim.Native.Nat.{ℕ, suc, _+_, _≤_, _<_}
 use native.Mathlib.Omega.{arith}
 use mathlib.Core.Path.{_≡_, refl, _∙_, sym, subst}
@@ -170,7 +171,8 @@ module _ (w : View) (r : Rules w) (k : ℕ) (hi : suc k ≤ w .rows) where
   pub mine : (y : ℕ) → 1 ≤ y → y ≤ w .cols → line-of (vertical w (row k (at-row y)) y) (row k (at-row y)) ≡ suc k
   mine y a b = go (vertical w (suc k) y) refl (r .vert k y a b (omega arith)) (r .vert (suc k) y a b hi)
     where
-      go : (s : State) → vertical w (suc k) y ≡ s → T (above (vertical w k y) s) → T (above s (vertical w (suc (suc k)) y)) → line-of (vertical w (row k (rel s)) y) (row k (rel s)) ≡ suc k
+      go : (s : State) → vertical w (suc k) y ≡ s → T (above (vertical w k y) s) → T (above s (vertical w (suc (suc k)) y))
+          → line-of (vertical w (row k (rel s)) y) (row k (rel s)) ≡ suc k
       go v0 e t u = rw e
       go v1 e t u = rw (under-1 (vertical w (suc (suc k)) y) u)
       go v2 e t u = rw (under-2 (vertical w (suc (suc k)) y) u)

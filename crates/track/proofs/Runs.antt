@@ -1,4 +1,5 @@
--- The run through one channel, from the letters of its switches. Assumes nothing.
+-- The run through one channel, from the letters of its switches.
+-- Assumes nothing.
 use Prim.Native.Nat.{ℕ, suc}
 use mathlib.Core.Path.{_≡_, refl, sym, ap, _∙_}
 use mathlib.Core.Bool.{_&&_}

@@ -124,7 +124,10 @@ alone-there w r k l k′ l′ a b a′ b′ e =
     let x : placed v (suc k) (suc l) .row ≡ placed v (suc k′) (suc l′) .row = sym (row-is w r k l a b) ∙ ap row e ∙ row-is w r k′ l′ a′ b′ in
     let y : placed v (suc k) (suc l) .col ≡ placed v (suc k′) (suc l′) .col = sym (column-is w r k l a b) ∙ ap column e ∙ column-is w r k′ l′ a′ b′ in
     let d : v .path (suc k) (suc l) ≡ v .path (suc k′) (suc l′) =
-    sym (rests-there w r k l a b .path-is) ∙ ap (λ (z : ℕ). v .path z (placed v (suc k) (suc l) .col)) x ∙ ap (λ (z : ℕ). v .path (placed v (suc k′) (suc l′) .row) z) y ∙ rests-there w r k′ l′ a′ b′ .path-is in
+    sym (rests-there w r k l a b .path-is)
+    ∙ ap (λ (z : ℕ). v .path z (placed v (suc k) (suc l) .col)) x
+    ∙ ap (λ (z : ℕ). v .path (placed v (suc k′) (suc l′) .row) z) y
+    ∙ rests-there w r k′ l′ a′ b′ .path-is in
     moved-apart (v .path (suc k) (suc l)) k l k′ l′
     (subst (λ (z : Dir). placed v (suc k) (suc l) .row ≡ moved z (suc k′) (suc l′) .row) (sym d) x)
     (subst (λ (z : Dir). placed v (suc k) (suc l) .col ≡ moved z (suc k′) (suc l′) .col) (sym d) y)

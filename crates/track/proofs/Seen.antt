@@ -77,7 +77,7 @@ module _ (n m : ℕ) (grid directions : List ℕ) (f : Formed n m grid) (pl : Pl
   unfolding faults
   fault-of k h =
       let x = position-at (inner-faulty n m) grid k h in
-      let a = and-true _ _ (x .passes) in
+      let a = and-true (inner n m (getD ps k 0)) (eqb (getD grid (getD ps k 0) 0) 1) (x .passes) in
       let l : k < length (directions-at directions ps) = omega (arith, length-directions directions ps) in
       let e = direction-at directions ps k h in
       let s = pl .one-path .straight k l in
@@ -269,7 +269,9 @@ module _ (n m : ℕ) (grid directions : List ℕ) (f : Formed n m grid) (pl : Pl
 
   -- the number of a direction
   number-of : (d : ℕ) (e : Dir) → T (moving e) → heading d ≡ e → d ≡ number e
-  number-of d e t h = by-heading (λ z. heading z ≡ e → z ≡ number e) d (λ g. rw (← g)) (λ g. rw (← g)) (λ g. rw (← g)) (λ g. rw (← g)) (λ a b c k g. absurd (moving-not-still e t (sym g ∙ rw (ne-eqb d 1 a, ne-eqb d 2 b, ne-eqb d 3 c, ne-eqb d 4 k)))) h
+  number-of d e t =
+      by-heading (λ z. heading z ≡ e → z ≡ number e) d (λ g. rw (← g)) (λ g. rw (← g)) (λ g. rw (← g)) (λ g. rw (← g))
+      (λ a b c k g. absurd (moving-not-still e t (sym g ∙ rw (ne-eqb d 1 a, ne-eqb d 2 b, ne-eqb d 3 c, ne-eqb d 4 k))))
 
   no-near-miss : (fx fy gx gy : ℕ) → w .dir fx fy ≡ south → w .dir gx gy ≡ north → difference fy gy ≡ 1 → fx < gx → ⊥
   unfolding near-miss
