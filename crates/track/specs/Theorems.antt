@@ -20,7 +20,8 @@ use Rattle.track.specs.Pieces.{Piece, pieces, Same}
 use Rattle.track.specs.Follower.{port-number, processor-of, out-of, seat-of, followed, switches-test}
 use Rattle.track.specs.declared.Followed.the-variants.{Entered}
 
--- a well-formed map, directions that are a plan at its inner faults, and the switches that routing sets for them
+-- A well-formed map, directions that are a plan at its inner faults, and the switches that routing sets for them. Nothing is asked of what
+-- stands elsewhere among the directions.
 pub record Routed (w : Wafer) : Type 0 where
   pub map : well-formed (w .rows) (w .columns) (w .grid) ≡ Accepted
   pub plan : Plan (w .rows) (w .columns) (w .grid) (directions-at (w .directions) (faults (w .rows) (w .columns) (w .grid)))
