@@ -21,7 +21,7 @@ use Rattle.plans.specs.declared.Fault.{Fault}
 use Rattle.track.specs.Placement.{through}
 use Rattle.track.specs.Letters as letters
 use Rattle.track.specs.Letters.{letter, across-exists, down-exists, across-at, down-at, across-letters, down-letters}
-use Rattle.track.specs.Ports.{Wafer, Compass, W, E, N, S, Processor, Across, Down, Port, _at_, stands, N–S, W–E, W–S·E–N, W–N·E–S, unjoined as unjoined-all, across-joins, down-joins, fault-joins, joins-nothing, joined}
+use Rattle.track.specs.Ports.{Wafer, Compass, W, E, N, S, Processor, Across, Down, Port, _at_, stands, N–S, W–E, unjoined as unjoined-all, across-joins, down-joins, fault-joins, joins-nothing, joined}
 use Rattle.track.specs.Link as link
 use Rattle.track.specs.Theorems.{Routed}
 use Rattle.track.proofs.View.{Dir, still, south, north, east, west, tr, moving, View, transposed, Planned}
@@ -71,10 +71,10 @@ kept none = refl
 kept (some q) = refl
 
 across-joins-is : (l : Letter) (p : Compass) → across-joins (code l) p ≡ as-option (join l p)
-across-joins-is sa p = kept (N–S p)
-across-joins-is sb p = kept (W–E p)
-across-joins-is sc p = kept (W–S·E–N p)
-across-joins-is sd p = kept (W–N·E–S p)
+across-joins-is sa p = kept (across-joins letters.a p)
+across-joins-is sb p = kept (across-joins letters.b p)
+across-joins-is sc p = kept (across-joins letters.c p)
+across-joins-is sd p = kept (across-joins letters.d p)
 across-joins-is no-switch p = refl
 
 abbrev as-turned : Joined → Option Compass

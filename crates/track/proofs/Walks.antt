@@ -5,7 +5,7 @@ use Prim.Native.Nat.{ℕ, zero, suc}
 use mathlib.Core.Bool.{Bool, true, false}
 use mathlib.Core.Option.{Option, none, some}
 use Rattle.track.specs.Letters.{a, b, c, d, letter, across-exists}
-use Rattle.track.specs.Ports.{Compass, W, E, N, S, N–S, W–E, W–S·E–N, W–N·E–S, by-letter}
+use Rattle.track.specs.Ports.{Compass, W, E, N, S, by-letter, across-joins}
 use Rattle.track.proofs.View.{Dir, still, south, north, east, west, tr, View}
 
 pub data State : Type 0 where
@@ -68,10 +68,10 @@ as-joined (some q) = to q
 
 -- the port that a letter joins to a port
 abbrev pub join : Letter → Compass → Joined
-join sa p = as-joined (N–S p)
-join sb p = as-joined (W–E p)
-join sc p = as-joined (W–S·E–N p)
-join sd p = as-joined (W–N·E–S p)
+join sa p = as-joined (across-joins a p)
+join sb p = as-joined (across-joins b p)
+join sc p = as-joined (across-joins c p)
+join sd p = as-joined (across-joins d p)
 join no-switch p = missing
 
 -- what an across link meets in a processor: it ends there, it runs through from W to E, or its track ends at an unjoined port
