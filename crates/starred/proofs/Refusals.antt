@@ -14,9 +14,9 @@ use Rattle.formats.specs.Number.{number-at, bytes-of, size-at}
 use Rattle.formats.specs.Records.{healthy-grid, records-along, record-count, file-bytes}
 use Rattle.readers.specs.Reading.{record-at, records-at, read-file}
 use Rattle.writers.specs.Writing.{buffer-test, write-file, write-map, write-plan}
-use Rattle.writers.specs.declared.FileWritten.the-variants as writing
 use Rattle.starred.specs.Grids.{grid-of, directions-of}
 use Rattle.starred.specs.Refusals.{Map-refused, Plan-refused, File-refusals, diagonal, upright, Plan-refusals}
+use Rattle.writers.specs.declared.FileWritten.the-variants as writing
 
 not-shortest : Map-refused (130 ∷ 0 ∷ []) 9 0
 unfolding grid-of directions-of direction-of span member read-file size-at number-at records-at record-at healthy-grid first-along positions-along bytes-of records-along record-count file-bytes buffer-test write-file map-tests

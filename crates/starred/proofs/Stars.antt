@@ -11,7 +11,7 @@ use Rattle.trials.specs.Search.{clear, searched, planned, outcome, direction-of
 use Rattle.track.specs.Placement.{through}
 use Rattle.track.specs.Letters.{letters, letter, across-letters}
 use Rattle.starred.specs.Grids.{grid-of, directions-of, shown}
-use Rattle.starred.specs.Stars.{Star, Right, Every, stars}
+use Rattle.starred.specs.Stars.{Every, stars}
 
 pub starred : Every stars
 unfolding grid-of span member path none-faulty is-open share meet near-miss first-along positions-along map-tests faults paired offer trials clear clear-of keeps searched planned outcome direction-of directions-of directions-written shown directions-at through letters letter across-letters

@@ -11,10 +11,10 @@ use Rattle.array.specs.declared.Verdict.the-variants.{Accepted}
 use Rattle.plans.specs.Faults.{fault}
 use Rattle.plans.specs.Check.{check-plan}
 use Rattle.readers.specs.Reading.{read-map, read-plan}
-use Rattle.readers.specs.declared.FileRead.the-variants as reading
 use Rattle.writers.specs.Writing.{write-map, write-plan}
-use Rattle.writers.specs.declared.FileWritten.the-variants as writing
 use Rattle.starred.specs.Grids.{grid-of, directions-of}
+use Rattle.readers.specs.declared.FileRead.the-variants as reading
+use Rattle.writers.specs.declared.FileWritten.the-variants as writing
 
 -- a reader refuses these bytes so, over a buffer of zeros, which stays
 abbrev pub Map-refused : List ℕ → ℕ → ℕ → Type 0

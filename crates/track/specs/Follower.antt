@@ -1,8 +1,8 @@
 -- Document 01, "Placement and routing" and "Numbers returned": the follower's answer, with 15 to 18.
 -- Assumes nothing.
-use Prim.Native.Nat.{ℕ, suc, _≤_, _+_, _<_}
+use Prim.Native.Nat.{ℕ, suc, _≤_, _+_}
 use mathlib.Core.Path.{_≡_}
-use mathlib.Core.Bool.{Bool, false, cond, not, _&&_}
+use mathlib.Core.Bool.{false, cond, not, _&&_}
 use mathlib.Core.List.{List, [], _∷_}
 use lib.Dec.{ltb, eqb}
 use lib.ListN.{getD}

@@ -3,7 +3,6 @@
 use Prim.Native.Nat.{ℕ}
 use mathlib.Core.Bool.{cond}
 use mathlib.Core.List.{List, [], _∷_}
-use lib.Dec.{eqb}
 use Rattle.array.specs.Place.{inner}
 use Rattle.array.specs.Buffer.{buffer}
 use Rattle.paths.specs.Path.{path, member, ahead}
