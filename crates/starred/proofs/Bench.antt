@@ -11,7 +11,7 @@ use Rattle.plans.specs.Faults.{faults, fault, directions-at, paired}
 use Rattle.trials.specs.Trials.{offer, trials, clear-of, keeps}
 use Rattle.trials.specs.Search.{clear, searched, planned, outcome, direction-of, directions-written}
 use Rattle.track.specs.Placement.{through, placement}
-use Rattle.track.specs.Letters.{b, c, d, letters, letter, across-letters, down-letters}
+use Rattle.track.specs.Letters.{b, c, d, letters, entry, letter, across-letters, down-letters}
 use Rattle.formats.specs.Number.{number-at, bytes-of, size-at}
 use Rattle.formats.specs.Records.{healthy-grid, records-along, record-count, file-bytes}
 use Rattle.readers.specs.Reading.{record-at, records-at, read-file, read-map}
@@ -34,11 +34,11 @@ unfolding grid-of span member path none-faulty is-open share meet near-miss firs
 cells = refl
 
 across-is : shown (across-letters 2 2 grid written) ≡ b ∷ c ∷ d ∷ b ∷ c ∷ d ∷ b ∷ d ∷ []
-unfolding grid-of span member path none-faulty is-open share meet near-miss first-along positions-along map-tests faults paired offer trials clear clear-of keeps searched planned outcome direction-of directions-of directions-written shown directions-at through letters letter across-letters
+unfolding grid-of span member path none-faulty is-open share meet near-miss first-along positions-along map-tests faults paired offer trials clear clear-of keeps searched planned outcome direction-of directions-of directions-written shown directions-at through letters entry letter across-letters
 across-is = refl
 
 down-is : shown (down-letters 2 2 grid written) ≡ b ∷ b ∷ b ∷ b ∷ b ∷ b ∷ b ∷ b ∷ []
-unfolding grid-of span member path none-faulty is-open share meet near-miss first-along positions-along map-tests faults paired offer trials clear clear-of keeps searched planned outcome direction-of directions-of directions-written shown directions-at through letters letter down-letters
+unfolding grid-of span member path none-faulty is-open share meet near-miss first-along positions-along map-tests faults paired offer trials clear clear-of keeps searched planned outcome direction-of directions-of directions-written shown directions-at through letters entry letter down-letters
 down-is = refl
 
 pub example : Example

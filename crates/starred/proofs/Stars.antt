@@ -9,12 +9,12 @@ use Rattle.plans.specs.Faults.{faults, directions-at, paired}
 use Rattle.trials.specs.Trials.{offer, trials, clear-of, keeps}
 use Rattle.trials.specs.Search.{clear, searched, planned, outcome, direction-of, directions-written}
 use Rattle.track.specs.Placement.{through}
-use Rattle.track.specs.Letters.{letters, letter, across-letters}
+use Rattle.track.specs.Letters.{letters, entry, letter, across-letters}
 use Rattle.starred.specs.Grids.{grid-of, directions-of, shown}
 use Rattle.starred.specs.Stars.{Every, stars}
 
 pub starred : Every stars
-unfolding grid-of span member path none-faulty is-open share meet near-miss first-along positions-along map-tests faults paired offer trials clear clear-of keeps searched planned outcome direction-of directions-of directions-written shown directions-at through letters letter across-letters
+unfolding grid-of span member path none-faulty is-open share meet near-miss first-along positions-along map-tests faults paired offer trials clear clear-of keeps searched planned outcome direction-of directions-of directions-written shown directions-at through letters entry letter across-letters
 starred = (
   record { formed = refl; outcome-is = refl; paths-are = refl; letters-are = tt },
   (

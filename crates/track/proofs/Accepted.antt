@@ -50,7 +50,7 @@ abbrev lettered : ℕ → Bool
 lettered l = leb 97 l && leb l 100
 
 letters-range : T (all (λ s. all (λ t. lettered (letter (state-number s) (state-number t)))))
-unfolding letter letters.letters
+unfolding letter letters.entry letters.letters
 letters-range = tt
 
 in-range : (s t : State) → lettered (letter (state-number s) (state-number t)) ≡ true

@@ -3,7 +3,7 @@
 use Prim.Native.Nat.{ℕ, suc}
 use mathlib.Core.Bool.{Bool, true, false, _&&_}
 use lib.Dec.{T, eqb}
-use Rattle.track.specs.Letters.{letter, letters}
+use Rattle.track.specs.Letters.{entry, letter, letters}
 use Rattle.track.proofs.Walks.{State, v0, v1, v2, v3, v4, Letter, sa, sb, sc, sd, code, table}
 
 -- states that may stand one above the other, and side by side, in a plan
@@ -132,7 +132,7 @@ right u′ v′ u v u″ v″ =
 pub everywhere :
     T
     (all (λ u′. all (λ v′. all (λ u. all (λ v. all (λ u″. all (λ v″. right u′ v′ u v u″ v″)))))))
-unfolding letter letters
+unfolding letter entry letters
 everywhere = tt
 
 pub rule :

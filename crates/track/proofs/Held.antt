@@ -53,7 +53,7 @@ abbrev same-letter : State → State → Bool
 same-letter s t = eqb (letter (state-number s) (state-number t)) (code (table s t))
 
 letters-agree : T (all (λ s. all (λ t. same-letter s t)))
-unfolding letter letters.letters
+unfolding letter letters.entry letters.letters
 letters-agree = tt
 
 pub letter-is : (s t : State) → letter (state-number s) (state-number t) ≡ code (table s t)

@@ -8,7 +8,7 @@ use borrow.Author.Tests.{ne-eqb, le-leb}
 use lib.Dec.{T, leb, eqb}
 use Rattle.array.specs.Place.{processor-at}
 use Rattle.array.proofs.Bools.{and-both}
-use Rattle.track.specs.Letters.{letter, letters, across-exists}
+use Rattle.track.specs.Letters.{letters, entry, letter, across-exists}
 use Rattle.track.proofs.View.{Dir, still, south, north, east, west, tr, View}
 use Rattle.track.proofs.Walks.{State, v0, v1, v2, v3, v4, state, sb, table, vertical, horizontal, across, ends, inside, inside-of, moved, placed}
 use Rattle.track.proofs.Cross.{above, beside, is, Rel, rel, row, leads, rule}
@@ -158,7 +158,7 @@ module _ (w : View) (r : Rules w) (k : ℕ) (hi : suc k ≤ w .rows) where
   pub flat :
       (y : ℕ) → y ≤ w .cols → vertical w (suc k) y ≡ v0 → vertical w (suc k) (suc y) ≡ v0 →
       T (is (across w (suc k) y) sb)
-  unfolding letter letters
+  unfolding letter entry letters
   flat y a e f =
       rw (
         across-is w (suc k) y (exists-row (w .rows) (w .cols) (suc k) y (omega arith) hi a),

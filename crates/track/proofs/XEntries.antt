@@ -9,8 +9,7 @@ use borrow.Author.Tests.{eqb-true}
 use lib.Dec.{T, eqb}
 use Rattle.array.specs.Place.{position, row, column, processor-at}
 use Rattle.array.proofs.Bools.{and-true, or-true}
-use Rattle.paths.specs.Path.{member}
-use Rattle.track.specs.Letters.{across-exists, down-exists}
+use Rattle.track.specs.Letters.{letters, entry, across-exists, down-exists}
 use Rattle.track.specs.Theorems.{printed-x, Two-or-three, vertical-of, horizontal-of, Few-x-entries}
 use Rattle.track.proofs.View.{transposed}
 use Rattle.track.proofs.Walks.{State, state-number, vertical}
@@ -27,7 +26,7 @@ x-test s t =
     given (beside s t && printed-x (state-number s) (state-number t)) (two-or-three (state-number s) (state-number t))
 
 x-everywhere : T (all (λ s. all (λ t. x-test s t)))
-unfolding member
+unfolding entry letters
 x-everywhere = tt
 
 told-apart : (a b : ℕ) → two-or-three a b ≡ true → Two-or-three a b

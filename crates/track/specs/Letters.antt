@@ -34,9 +34,9 @@ c = 99
 abbrev pub d : ℕ
 d = 100
 
--- b is written where document 01 prints x
+-- the mark x, as document 01 prints it: no letter of a switch
 abbrev pub x : ℕ
-x = b
+x = 120
 
 -- the table: west states 0 to 4 downward, east states 0 to 4 along each row
 unfoldable pub letters : List ℕ
@@ -48,9 +48,13 @@ letters =
     ∷ c ∷ x ∷ x ∷ c ∷ b
     ∷ []
 
--- by west and east state; of a down switch, by upper and lower state. 0, no letter, for other numbers.
+-- the entry by west and east state; of a down switch, by upper and lower state. 0, no letter, for other numbers.
+unfoldable pub entry : ℕ → ℕ → ℕ
+entry west east = getD letters (west * 5 + east) 0
+
+-- the letter that is written: the entry, and b at x
 unfoldable pub letter : ℕ → ℕ → ℕ
-letter west east = getD letters (west * 5 + east) 0
+letter west east = cond (eqb (entry west east) x) b (entry west east)
 
 -- an across switch lies between the processors (x, y) and (x, y+1), wherever both exist, and is filed under (x, y)
 abbrev pub across-exists : ℕ → ℕ → ℕ → ℕ → Bool

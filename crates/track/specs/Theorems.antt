@@ -1,19 +1,19 @@
 -- Document 01, "Placement and routing": what is proved of placement, links and letters once a plan is found, for every N and M from 1 to 30.
 -- Assumes nothing.
-use Prim.Native.Nat.{ℕ, _+_, _*_, _≤_, _<_}
+use Prim.Native.Nat.{ℕ, _+_, _≤_, _<_}
 use mathlib.Core.Path.{_≡_}
 use mathlib.Core.Bool.{Bool, true}
 use mathlib.Core.Logic.{_⊎_}
-use mathlib.Core.List.{List, [], _∷_, List·Memᴰ}
+use mathlib.Core.List.{List, List·Memᴰ}
+use lib.Dec.{eqb}
 use lib.ListN.{getD}
 use Rattle.array.specs.Place.{position, row, column, processor}
 use Rattle.array.specs.Map.{healthy, well-formed}
 use Rattle.array.specs.declared.Verdict.the-variants.{Accepted}
-use Rattle.paths.specs.Path.{member}
 use Rattle.plans.specs.Faults.{faults, directions-at, directed-faults}
 use Rattle.plans.specs.Plan.{Plan}
 use Rattle.track.specs.Placement.{placement}
-use Rattle.track.specs.Letters.{across-exists, down-exists, across-letters, down-letters, vertical-at, horizontal-at}
+use Rattle.track.specs.Letters.{x, entry, across-exists, down-exists, across-letters, down-letters, vertical-at, horizontal-at}
 use Rattle.track.specs.Ports.{Wafer, Compass, W, N, Port, _at_}
 use Rattle.track.specs.Link.{Trail, Link, Enters, switches}
 use Rattle.track.specs.Pieces.{Piece, pieces, Same}
@@ -113,9 +113,9 @@ Switches-pass =
     (w : Wafer) → w .across ≡ across-letters (w .rows) (w .columns) (w .grid) (w .directions)
     → w .down ≡ down-letters (w .rows) (w .columns) (w .grid) (w .directions) → switches-test w ≡ Accepted
 
--- the entries of the table of letters that are printed x, by west state times five plus east state
+-- the entry of the table for these states is x
 abbrev pub printed-x : ℕ → ℕ → Bool
-printed-x west east = member (west * 5 + east) (8 ∷ 9 ∷ 12 ∷ 14 ∷ 16 ∷ 18 ∷ 21 ∷ 22 ∷ [])
+printed-x west east = eqb (entry west east) x
 
 abbrev pub Two-or-three : ℕ → ℕ → Type 0
 Two-or-three west east = ((west ≡ 2) × (east ≡ 2)) ⊎ ((west ≡ 3) × (east ≡ 3))

@@ -1,7 +1,7 @@
 -- `track::switch_letter` meets its contract: arm by arm, a range by one computed test.
 -- Assumes nothing.
 use mathlib.Core.Path.{_≡_, refl}
-use mathlib.Core.Bool.{Bool, true, _||_}
+use mathlib.Core.Bool.{Bool, true, cond, _||_}
 use mathlib.Core.Logic.{inl, inr, ⊎-elim}
 use Prim.Native.Nat.{ℕ, _+_, _*_, _<_, _≤_}
 use native.Mathlib.Omega.{arith}
@@ -9,18 +9,22 @@ use borrow.Author.Needs.{needs}
 use borrow.Author.Tests.{eqb-true, ne-eqb}
 use lib.Dec.{eqb}
 use lib.ListN.{getD}
-use Rattle.track.specs.Letters.{letters, letter}
+use Rattle.track.specs.Letters.{b, x, letters, entry, letter}
 use Rattle.track.proofs.Ranges.{all-from, all-at}
 use Rattle.track.proofs.switch_letter.Statement.{statement}
 use Rattle.track.proofs.switch_letter.Tie as tie
 
+-- the letter by west state times five plus east state
+abbrev by-key : ℕ → ℕ
+by-key k = cond (eqb (getD letters k 0) x) b (getD letters k 0)
+
 holds : ℕ → ℕ → Bool
-holds l k = eqb l (getD letters k 0)
+holds l k = eqb l (by-key k)
 
 -- the letter at each number of a range
-on-range : (l low n k : ℕ) → all-from (holds l) low n ≡ true → low ≤ k → k < low + n → l ≡ getD letters k 0
+on-range : (l low n k : ℕ) → all-from (holds l) low n ≡ true → low ≤ k → k < low + n → l ≡ by-key k
 unfolding holds
-on-range l low n k t h u = eqb-true l (getD letters k 0) (all-at (holds l) low n k t h u)
+on-range l low n k t h u = eqb-true l (by-key k) (all-at (holds l) low n k t h u)
 
 -- a number of some single arm, or one at which b stands
 single : ℕ → Bool
@@ -37,15 +41,15 @@ add-match : tie.Need-add-match
 add-match c = search needs
 
 returns : tie.Need-returns
-unfolding letter letters
+unfolding letter entry letters
 returns c = ⊎-elim (λ e. rw e) (λ e. rw e) (c .match .keys1)
 
 returns-2 : tie.Need-returns-2
-unfolding letter letters holds
+unfolding letter entry letters holds
 returns-2 c = on-range 98 0 1 (key (c .before .before)) refl (omega arith) (omega arith)
 
 returns-3 : tie.Need-returns-3
-unfolding letter letters holds single
+unfolding letter entry letters holds single
 returns-3 c =
     let r = c .before .before .before .match .rest in
     let k = key (c .before .before .before .before) in
@@ -64,19 +68,19 @@ returns-3 c =
     ) at t)
 
 returns-4 : tie.Need-returns-4
-unfolding letter letters
+unfolding letter entry letters
 returns-4 c = ⊎-elim (λ e. rw e) (⊎-elim (λ e. rw e) (λ e. rw e)) (c .match .keys3)
 
 returns-5 : tie.Need-returns-5
-unfolding letter letters holds
+unfolding letter entry letters holds
 returns-5 c = on-range 100 3 3 (key (c .before .before .before .before)) refl (omega arith) (omega arith)
 
 returns-6 : tie.Need-returns-6
-unfolding letter letters
+unfolding letter entry letters
 returns-6 c = ⊎-elim (λ e. rw e) (⊎-elim (λ e. rw e) (⊎-elim (λ e. rw e) (λ e. rw e))) (c .match .keys2)
 
 returns-7 : tie.Need-returns-7
-unfolding letter letters holds
+unfolding letter entry letters holds
 returns-7 c = on-range 99 1 2 (key (c .before .before .before)) refl (omega arith) (omega arith)
 
 pub switch-letter-spec : {M : Type 1} → statement M
