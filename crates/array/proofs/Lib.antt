@@ -5,3 +5,5 @@ pub mod Scans
 pub mod Fills
 pub mod Filters
 pub mod Answers
+pub mod Copies
+pub mod Counts
