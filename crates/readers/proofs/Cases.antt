@@ -1,6 +1,6 @@
 -- The definitions of a reader by their cases: one law for each answer.
 -- Assumes nothing.
-use Prim.Native.Nat.{ℕ, zero, suc, _+_, _-_, _*_, _<_, _≤_}
+use Prim.Native.Nat.{ℕ, suc, _+_, _-_, _<_, _≤_}
 use mathlib.Core.Path.{_≡_, refl, sym, ap, _∙_}
 use mathlib.Core.List.{List}
 use mathlib.Core.Bool.{Bool, true, false, cond, not}
@@ -26,7 +26,6 @@ use Rattle.readers.specs.Parts.{blank-mark, stands-at, value-at, is-valu
 use Rattle.readers.specs.declared.Step.{Step}
 use Rattle.readers.specs.declared.Step.the-variants as step
 use Rattle.readers.specs.declared.Head.{Head}
-use Rattle.readers.specs.declared.FileRead.{FileRead}
 use Rattle.readers.specs.declared.FileRead.the-variants as file
 
 module _ (s : List ℕ) (at : ℕ) where

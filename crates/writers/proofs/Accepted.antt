@@ -2,11 +2,11 @@
 -- Assumes nothing.
 use Prim.Native.Nat.{ℕ, _+_, _<_, _≤_}
 use mathlib.Core.Path.{_≡_, refl, sym, ap, _∙_}
-use mathlib.Core.Bool.{Bool, true, false, not, cond, _&&_, _||_}
+use mathlib.Core.Bool.{Bool, true, not, _&&_, _||_}
 use mathlib.Core.List.{List, [], _∷_, _++_}
 use native.Mathlib.Nat.{zero-add}
 use native.Mathlib.Omega.{arith}
-use lib.Dec.{ltb, leb, eqb}
+use lib.Dec.{ltb, eqb}
 use lib.ListN.{length, getD, drop}
 use lib.Seq.{sets, sets-eq}
 use borrow.Author.Tests.{leb-true, eqb-true, ltb-false, lt-ltb, le-ltb, eq-eqb, ne-eqb}
@@ -54,20 +54,21 @@ element-low Plan n m p v h =
 pub record Passed (kind : Kind) (n m : ℕ) (b : List ℕ) : Type 0 where
   pub sizes : Sized n m
   pub is-long : length b ≡ 1024
-  pub each : (p : ℕ) → p < length b → element-test kind n m p (getD b p 0) ≡ verdict.Accepted
+  pub scanned : first-in (element-test kind n m) b ≡ verdict.Accepted
   pub small : (p : ℕ) → p < length b → getD b p 0 < 128
 
 pub passed : (kind : Kind) (n m : ℕ) (b : List ℕ) → buffer-test kind n m b ≡ verdict.Accepted → Passed kind n m b
 passed kind n m b h =
     let x = both-accepted _ _ (sym (tests-are kind n m b) ∙ h) in
     let y = both-accepted _ _ (x .1) in
-    let e : (p : ℕ) → p < length b → element-test kind n m p (getD b p 0) ≡ verdict.Accepted =
-    scan-each (buffer-scan (element-test kind n m) b) (y .1) in
     record {
       sizes = sized n m (accepted-not _ 1 0 0 (x .0));
       is-long = eqb-true _ _ (sym (and-one (long b)) ∙ accepted-not _ 2 0 0 (y .0));
-      each = e;
-      small = λ p l. let q : getD b p 0 ≤ 4 = element-low kind n m p (getD b p 0) (e p l) in omega arith;
+      scanned = y .1;
+      small = λ p l.
+          let e = scan-each (buffer-scan (element-test kind n m) b) (y .1) p l in
+          let q : getD b p 0 ≤ 4 = element-low kind n m p (getD b p 0) e in
+          omega arith;
     }
 
 -- the test of a buffer's length

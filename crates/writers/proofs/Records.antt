@@ -20,7 +20,7 @@ use Rattle.writers.specs.Parts.{value-bytes, element-bytes, records-of, 
 use Rattle.writers.proofs.Runs.{Splits}
 
 -- a record is its row, its column and its value
-record-is : (kind : Kind) (p v : ℕ) → record-bytes kind p v ≡ bytes-of (row p) ++ (bytes-of (column p) ++ value-bytes kind v)
+pub record-is : (kind : Kind) (p v : ℕ) → record-bytes kind p v ≡ bytes-of (row p) ++ (bytes-of (column p) ++ value-bytes kind v)
 record-is Map p v = ap (λ (l : List ℕ). bytes-of (row p) ++ l) (sym (append-nil (bytes-of (column p))))
 record-is Plan p v = refl
 

@@ -5,7 +5,6 @@ use mathlib.Core.Path.{_≡_, sym, _∙_}
 use mathlib.Core.Bool.{true}
 use borrow.Author.Tests.{not-true, not-false}
 use Rattle.array.proofs.Bools.{cond-taken, cond-left}
-use Rattle.readers.specs.Parts.{stands-at, is-value}
 use Rattle.readers.proofs.Cases.{stands-within, value-low}
 use borrow.Author.Needs.{needs}
 use native.Mathlib.Omega.{arith}
