@@ -101,8 +101,8 @@ module _ (kind : Kind) (p x : ℕ) (xs : List ℕ) where
   along-some t =
       rw t
       (ap (λ (l : List ℕ). l ++ later) (record-is kind p x)
-      ∙ append-assoc (bytes-of (row p)) (bytes-of (column p) ++ value-bytes kind x) later
-      ∙ ap (λ (l : List ℕ). bytes-of (row p) ++ l) (append-assoc (bytes-of (column p)) (value-bytes kind x) later))
+      ∙ append-assoc (bytes-of (row p) ++ bytes-of (column p)) (value-bytes kind x) later
+      ∙ append-assoc (bytes-of (row p)) (bytes-of (column p)) (value-bytes kind x ++ later))
 
   pub along-none : recorded kind p x ≡ false → records-along (recorded kind) (record-bytes kind) p (x ∷ xs) ≡ later
   unfolding records-along

@@ -3,7 +3,7 @@
 use Prim.Native.Nat.{ℕ, suc, _+_, _<_, _≤_}
 use mathlib.Core.Path.{_≡_, refl, sym, ap, _∙_}
 use mathlib.Core.Bool.{Bool, true, false, cond}
-use mathlib.Core.List.{List, [], _∷_, _++_, append-nil}
+use mathlib.Core.List.{List, [], _∷_, _++_, append-assoc, append-nil}
 use native.Mathlib.Numerals.{add-one}
 use native.Mathlib.Omega.{arith}
 use lib.ListN.{length, getD, drop, length-append, drop-of-length-le}
@@ -16,24 +16,24 @@ use Rattle.formats.specs.Records.{recorded, record-bytes, records-along, record
 use Rattle.formats.specs.declared.Kind.{Kind}
 use Rattle.formats.specs.declared.Kind.the-variants.{Map, Plan}
 use Rattle.formats.proofs.Cases.{one-byte}
-use Rattle.writers.specs.Parts.{value-bytes, element-bytes, records-of, records-length}
+use Rattle.writers.specs.Parts.{pair-bytes, value-bytes, element-bytes, records-of, records-length}
 use Rattle.writers.proofs.Runs.{Splits}
 
--- a record is its row, its column and its value
-pub record-is : (kind : Kind) (p v : ℕ) → record-bytes kind p v ≡ bytes-of (row p) ++ (bytes-of (column p) ++ value-bytes kind v)
-record-is Map p v = ap (λ (l : List ℕ). bytes-of (row p) ++ l) (sym (append-nil (bytes-of (column p))))
-record-is Plan p v = refl
+-- a record is its row with its column, and its value
+pub record-is : (kind : Kind) (p v : ℕ) → record-bytes kind p v ≡ pair-bytes (row p) (column p) ++ value-bytes kind v
+record-is Map p v = sym (append-nil (pair-bytes (row p) (column p)))
+record-is Plan p v = sym (append-assoc (bytes-of (row p)) (bytes-of (column p)) (bytes-of v))
 
-pub row-first : (kind : Kind) (p v : ℕ) → Splits (record-bytes kind p v) (bytes-of (row p)) (bytes-of (column p) ++ value-bytes kind v)
-row-first kind p v = record { is = record-is kind p v }
+pub pair-first : (kind : Kind) (p v : ℕ) → Splits (record-bytes kind p v) (pair-bytes (row p) (column p)) (value-bytes kind v)
+pair-first kind p v = record { is = record-is kind p v }
 
--- a file is N, M, the count and the records
-pub rows-first :
+-- a file is N with M, the count and the records
+pub sizes-first :
     (kind : Kind) (n m count : ℕ) (b : List ℕ) →
     count ≡ record-count kind b →
-    Splits (file-bytes kind n m b) (bytes-of n) (bytes-of m ++ (bytes-of count ++ records-of kind b))
+    Splits (file-bytes kind n m b) (pair-bytes n m) (bytes-of count ++ records-of kind b)
 unfolding file-bytes
-rows-first kind n m count b e = record { is = rw e }
+sizes-first kind n m count b e = record { is = rw e (sym (append-assoc (bytes-of n) (bytes-of m) _)) }
 
 -- the bytes of an element whose test a callee answered as r
 module _ (kind : Kind) (p v : ℕ) {r : Bool} (e : r ≡ recorded kind p v) where

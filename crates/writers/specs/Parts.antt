@@ -2,12 +2,16 @@
 use Prim.Native.Nat.{ℕ, _*_, _≤_}
 use mathlib.Core.Path.{_≡_}
 use mathlib.Core.Bool.{cond}
-use mathlib.Core.List.{List, []}
+use mathlib.Core.List.{List, [], _++_}
 use lib.ListN.{length}
 use Rattle.formats.specs.Number.{bytes-of}
 use Rattle.formats.specs.Records.{recorded, record-bytes, records-along, record-count, file-bytes}
 use Rattle.formats.specs.declared.Kind.{Kind}
 use Rattle.formats.specs.declared.Kind.the-variants.{Map, Plan}
+
+-- the bytes of two numbers
+abbrev pub pair-bytes : ℕ → ℕ → List ℕ
+pair-bytes x y = bytes-of x ++ bytes-of y
 
 -- the bytes of a record after its row and column
 abbrev pub value-bytes : Kind → ℕ → List ℕ

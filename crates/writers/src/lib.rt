@@ -10,7 +10,7 @@ ghost use Rattle.array.specs.Tests.{first-in};
 ghost use Rattle.array.specs.declared.Verdict.the-variants.{Accepted};
 ghost use Rattle.formats.specs.Records.{record-bytes, record-count, file-bytes};
 ghost use Rattle.writers.specs.Writing.{told, path-test, buffer-test, room-test, put, write-file, write-map, write-plan};
-ghost use Rattle.writers.specs.Parts.{value-bytes, element-bytes, records-of, records-length, Fitting};
+ghost use Rattle.writers.specs.Parts.{pair-bytes, value-bytes, element-bytes, records-of, records-length, Fitting};
 ghost use Rattle.formats.specs.declared.Kind.the-variants.{Plan};
 
 // What a writer returns: the length of the file.
@@ -93,6 +93,15 @@ fn length_of_records(kind: Kind, count: usize) -> usize
     }
 }
 
+// Writes two numbers at an offset, one after the other, and gives the offset after them.
+fn write_pair(out: &mut [u8], at: usize, x: usize, y: usize) -> usize
+    requires { ⌜ (x < 16384) × (y < 16384) × (at + length (pair-bytes x y) ≤ length (now out)) ⌝ }
+    ensures { λ r. ⌜ (r ≡ at + length (pair-bytes x y)) × (now (out .exit) ≡ sets (now (out .entry)) at (pair-bytes x y)) ⌝ }
+{
+    let second = formats::write_number(out, at, x);
+    formats::write_number(out, second, y)
+}
+
 // Writes what a record has after its row and column, and gives the offset after it.
 fn write_value(kind: Kind, out: &mut [u8], at: usize, v: u8) -> usize
     requires { ⌜ at + length (value-bytes kind v) ≤ length (now out) ⌝ }
@@ -109,8 +118,7 @@ fn write_record(kind: Kind, out: &mut [u8], at: usize, p: usize, v: u8) -> usize
     requires { ⌜ (p < 1024) × (at + length (record-bytes kind p v) ≤ length (now out)) ⌝ }
     ensures { λ r. ⌜ (r ≡ at + length (record-bytes kind p v)) × (now (out .exit) ≡ sets (now (out .entry)) at (record-bytes kind p v)) ⌝ }
 {
-    let second = formats::write_number(out, at, p / 32);
-    let third = formats::write_number(out, second, p % 32);
+    let third = write_pair(out, at, p / 32, p % 32);
     write_value(kind, out, third, v)
 }
 
@@ -142,8 +150,7 @@ fn write_parts(kind: Kind, out: &mut [u8], n: usize, m: usize, count: usize, b: 
     requires { ⌜ Fitting kind n m count (now b) (now out) ⌝ }
     ensures { λ r. ⌜ (r ≡ length (file-bytes kind n m (now (b .entry)))) × (now (out .exit) ≡ sets (now (out .entry)) 0 (file-bytes kind n m (now (b .entry)))) ⌝ }
 {
-    let second = formats::write_number(out, 0, n);
-    let third = formats::write_number(out, second, m);
+    let third = write_pair(out, 0, n, m);
     let fourth = formats::write_number(out, third, count);
     write_records(kind, out, fourth, b)
 }
