@@ -12,7 +12,7 @@ ghost use Rattle.formats.specs.Records.{blank};
 ghost use Rattle.readers.specs.Reading.{told, record-at, records-at, whole-file, read-file, read-map, read-plan};
 ghost use Rattle.readers.specs.Parts.{blank-mark, stands-at, value-at, is-value, marked};
 ghost use Rattle.readers.specs.declared.Head.{Head};
-ghost use Rattle.readers.specs.declared.Step.the-variants.{Refused};
+ghost use Rattle.readers.specs.declared.Step.the-variants.{Next};
 
 // A record is read, with the offset after it, or refused.
 pub enum Step {
@@ -196,20 +196,6 @@ fn read_records(
     Step::Next(at)
 }
 
-// The refusal of a record.
-fn refusal_of(a: Step) -> Refusal
-    ensures { λ r. ⌜ ((e : Refusal) → a ≡ Refused e → r ≡ e) ⌝ }
-{
-    match a {
-        Step::Next(_) => Refusal {
-            number: 0,
-            place: 0,
-            second: 0,
-        },
-        Step::Refused(e) => e,
-    }
-}
-
 // Copies a whole buffer.
 fn copy(to: &mut [u8], from: [u8; 1024])
     requires { ⌜ length (now to) ≡ 1024 ⌝ }
@@ -220,16 +206,11 @@ fn copy(to: &mut [u8], from: [u8; 1024])
     }
 }
 
-// Reads what follows the head of a file, and fills the lent buffer where the whole file is good.
-fn read_body(kind: Kind, s: &[u8], head: Head, start: usize, lent: &mut [u8]) -> FileRead
-    requires { ⌜ (head .rows ≤ 30) × (head .columns ≤ 30) × (length (now lent) ≡ 1024) ⌝ }
-    ensures { λ r. ⌜ (r, now (lent .exit)) ≡ whole-file (now (s .entry)) head (now (lent .entry)) (records-at kind (now (s .entry)) (head .rows) (head .columns) (head .count) start (blank kind (head .rows) (head .columns))) ⌝ }
+// Fills the lent buffer where the file ends with its last record.
+fn fill(s: &[u8], head: Head, end: usize, b: [u8; 1024], lent: &mut [u8]) -> FileRead
+    requires { ⌜ length (now lent) ≡ 1024 ⌝ }
+    ensures { λ r. ⌜ (r, now (lent .exit)) ≡ whole-file (now (s .entry)) head (now (lent .entry)) (Next end, b) ⌝ }
 {
-    let mut b = blank_buffer(kind, head.rows, head.columns);
-    let a = read_records(kind, s, head.rows, head.columns, head.count, start, &mut b);
-    let Step::Next(end) = a else {
-        return FileRead::Refused(refusal_of(a));
-    };
     if end < s.len() {
         return FileRead::Refused(Refusal {
             number: 12,
@@ -239,6 +220,18 @@ fn read_body(kind: Kind, s: &[u8], head: Head, start: usize, lent: &mut [u8]) ->
     }
     copy(lent, b);
     FileRead::File(head)
+}
+
+// Reads what follows the head of a file.
+fn read_body(kind: Kind, s: &[u8], head: Head, start: usize, lent: &mut [u8]) -> FileRead
+    requires { ⌜ (head .rows ≤ 30) × (head .columns ≤ 30) × (length (now lent) ≡ 1024) ⌝ }
+    ensures { λ r. ⌜ (r, now (lent .exit)) ≡ whole-file (now (s .entry)) head (now (lent .entry)) (records-at kind (now (s .entry)) (head .rows) (head .columns) (head .count) start (blank kind (head .rows) (head .columns))) ⌝ }
+{
+    let mut b = blank_buffer(kind, head.rows, head.columns);
+    match read_records(kind, s, head.rows, head.columns, head.count, start, &mut b) {
+        Step::Next(end) => fill(s, head, end, b, lent),
+        Step::Refused(r) => FileRead::Refused(r),
+    }
 }
 
 // Reads a file of either kind.

@@ -1,7 +1,12 @@
 -- `readers::read_body` meets its contract.
 -- Assumes nothing.
-use mathlib.Core.Path.{sym}
-use Rattle.readers.proofs.Cases.{whole-refused, whole-more, whole-read}
+use denote.Ref.{now}
+use mathlib.Core.Path.{sym, ap, _∙_}
+use mathlib.Core.List.{List}
+use Prim.Native.Nat.{ℕ}
+use Rattle.readers.specs.Reading.{whole-file}
+use Rattle.readers.specs.declared.Step.{Step}
+use Rattle.readers.proofs.Cases.{whole-refused}
 use borrow.Author.Needs.{needs}
 use Rattle.readers.proofs.read_body.Statement.{statement}
 use Rattle.readers.proofs.read_body.Tie as tie
@@ -15,31 +20,26 @@ slice-aggregate-read-records c = search needs
 read-records-requires : tie.Need-read-records-requires
 read-records-requires c κs = search needs
 
-enum-known-a : tie.Need-enum-known-a
-enum-known-a c = search needs
+enum-known-end : tie.Need-enum-known-end
+enum-known-end c = search needs
 
-enum-told : tie.Need-enum-told
-enum-told c = search needs
+fill-requires : tie.Need-fill-requires
+fill-requires c κs = search needs
 
-refusal-of-requires : tie.Need-refusal-of-requires
-refusal-of-requires c κs = search needs
-
-returns : tie.Need-returns
-returns c = rw (c .refusal-of .ensures _ (c .before .enum-told .given .1))
-    (sym (whole-refused _ _ _ _ _ (sym (rw (c .before .enum-told .given .1, c .before .before .before .before .before .before .blank-buffer .ensures) at (c .before .before .before .before .read-records .ensures)))))
-
-returns-2 : tie.Need-returns-2
-returns-2 c = sym (whole-more _ _ _ _ _ (sym (rw (c .before .before .a .given .1, c .before .before .before .before .before .before .before .blank-buffer .ensures) at (c .before .before .before .before .before .read-records .ensures))) (c .if1 .taken))
-
-copy-requires : tie.Need-copy-requires
-copy-requires c κs = search needs
+enum-known-r : tie.Need-enum-known-r
+enum-known-r c = search needs
 
 same-length : tie.Need-same-length
 same-length c = search needs
 
-returns-3 : tie.Need-returns-3
-returns-3 c = rw (c .before .before .copy .ensures)
-    (sym (whole-read _ _ _ _ _ (sym (rw (c .before .before .before .before .before .before .a .given .1, c .before .before .before .before .before .before .before .before .before .before .before .blank-buffer .ensures) at (c .before .before .before .before .before .before .before .before .before .read-records .ensures))) (c .before .before .before .before .if1 .left)))
+returns : tie.Need-returns
+returns c = let a = c .before .before .before .before .before .before .before .before .before .before .before .before .before .args in
+    c .before .before .fill .ensures
+    ∙ ap (λ (x : Step × List ℕ). whole-file (now (a .s)) (a .head) (now (a .lent)) x)
+    (rw (c .before .before .before .before .before .end .given .1, c .before .before .before .before .before .before .before .before .before .before .blank-buffer .ensures) at (c .before .before .before .before .before .before .before .before .read-records .ensures))
+
+returns-2 : tie.Need-returns-2
+returns-2 c = sym (whole-refused _ _ _ _ _ (sym (rw (c .before .r .given .1, c .before .before .before .before .before .before .blank-buffer .ensures) at (c .before .before .before .before .read-records .ensures))))
 
 pub read-body-spec : {M : Type 1} → statement M
 read-body-spec =
@@ -48,11 +48,9 @@ read-body-spec =
     blank-buffer-requires
     slice-aggregate-read-records
     read-records-requires
-    enum-known-a
-    enum-told
-    refusal-of-requires
-    returns
-    returns-2
-    copy-requires
+    enum-known-end
+    fill-requires
+    enum-known-r
     same-length
-    returns-3)
+    returns
+    returns-2)
