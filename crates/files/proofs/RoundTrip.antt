@@ -148,8 +148,8 @@ module _ (kind : Kind) (n m : ℕ) where
         ap length (sym (stored small s front _ done ys p x at g es′ ea eg ed lg (omega arith) k)) ∙ length-set g _ x ∙ lg in
         ap (λ (j : ℕ). records-at kind s n m j at g) (count-some kind p x xs e)
         ∙ more-suc kind s n m _ at g _ _ (record-read small s front _ done ys p x at g es′ ea eg ed lg (omega arith) k)
-        ∙ walk xs next (done ++ (x ∷ [])) (suc p) (length next) ((done ++ (x ∷ [])) ++ ys) (after-value small s front _ done ys p x at g es′ ea eg ed lg (omega arith) k) refl refl er′ ed′ lg′
-        (omega arith) (t .1))
+        ∙ walk xs next (done ++ (x ∷ [])) (suc p) (length next) ((done ++ (x ∷ [])) ++ ys)
+        (after-value small s front _ done ys p x at g es′ ea eg ed lg (omega arith) k) refl refl er′ ed′ lg′ (omega arith) (t .1))
         (λ e.
         let es′ = es ∙ ap (λ (z : List ℕ). front ++ z) (along-none kind p x xs e) in
         let eg′ : g ≡ (done ++ (x ∷ [])) ++ ys =

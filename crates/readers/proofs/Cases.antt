@@ -127,12 +127,16 @@ module _ (s : List ℕ) (n m at : ℕ) (b : List ℕ) where
 
 module _ (kind : Kind) (s : List ℕ) (n m k at : ℕ) (b : List ℕ) where
   pub more-suc :
-      (next : ℕ) (c : List ℕ) → record-at kind s n m at b ≡ (step.Next next, c) → records-at kind s n m (suc k) at b ≡ records-at kind s n m k next c
+      (next : ℕ) (c : List ℕ) →
+      record-at kind s n m at b ≡ (step.Next next, c) →
+      records-at kind s n m (suc k) at b ≡ records-at kind s n m k next c
   unfolding records-at
   more-suc next c q = rw q
 
   stop-suc :
-      (e : Refusal) (c : List ℕ) → record-at kind s n m at b ≡ (step.Refused e, c) → records-at kind s n m (suc k) at b ≡ (step.Refused e, c)
+      (e : Refusal) (c : List ℕ) →
+      record-at kind s n m at b ≡ (step.Refused e, c) →
+      records-at kind s n m (suc k) at b ≡ (step.Refused e, c)
   unfolding records-at
   stop-suc e c q = rw q
 
@@ -141,7 +145,9 @@ module _ (kind : Kind) (s : List ℕ) (n m k at : ℕ) (b : List ℕ) (l : 0 < k
   some = omega arith
 
   pub more :
-      (next : ℕ) (c : List ℕ) → record-at kind s n m at b ≡ (step.Next next, c) → records-at kind s n m k at b ≡ records-at kind s n m (k - 1) next c
+      (next : ℕ) (c : List ℕ) →
+      record-at kind s n m at b ≡ (step.Next next, c) →
+      records-at kind s n m k at b ≡ records-at kind s n m (k - 1) next c
   more next c q = ap (λ (j : ℕ). records-at kind s n m j at b) some ∙ more-suc kind s n m (k - 1) at b next c q
 
   pub stop :

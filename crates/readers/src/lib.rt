@@ -27,10 +27,13 @@ pub struct Head {
     pub count: usize,
 }
 
+// What a reader answers.
 pub enum FileRead {
     File(Head),
     Refused(Refusal),
 }
+
+// The inner parts of the readers; some have a `requires`.
 
 // N or M at an offset, with the offset after it, or its refusal.
 fn read_size(s: &[u8], at: usize) -> Number
@@ -264,6 +267,8 @@ fn read_file(kind: Kind, s: &[u8], lent: &mut [u8]) -> FileRead
     };
     read_body(kind, s, head, start, lent)
 }
+
+// The operations.
 
 // Reads a map file into a grid.
 pub fn read_map(s: &[u8], grid: &mut [u8]) -> FileRead

@@ -64,7 +64,11 @@ module _ (kind : Kind) (b : List ℕ) (p : ℕ) where
   records-end h = rw (drop-of-length-le b h)
 
 -- The numbers of a record take one byte each where its value is small.
-record-length : (kind : Kind) (p v k : ℕ) → p < 1024 → v < 128 → length (record-bytes kind p v) + records-length kind k ≡ records-length kind (suc k)
+record-length :
+    (kind : Kind) (p v k : ℕ) →
+    p < 1024 →
+    v < 128 →
+    length (record-bytes kind p v) + records-length kind k ≡ records-length kind (suc k)
 record-length Map p v k h l =
     omega (
       arith,

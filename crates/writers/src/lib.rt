@@ -13,11 +13,13 @@ ghost use Rattle.writers.specs.Writing.{told, path-test, buffer-test, ro
 ghost use Rattle.writers.specs.Parts.{pair-bytes, value-bytes, element-bytes, records-of, records-length, Fitting};
 ghost use Rattle.formats.specs.declared.Kind.the-variants.{Plan};
 
-// What a writer returns: the length of the file.
+// What a writer answers: the length of the file, or the refusal.
 pub enum FileWritten {
     Length(usize),
     Refused(Refusal),
 }
+
+// The inner parts of the writers; some have a `requires`.
 
 // Test 4 of a plan without a grid.
 fn check_paths(n: usize, m: usize, directions: &[u8]) -> Verdict
@@ -182,6 +184,8 @@ fn write_file(kind: Kind, n: usize, m: usize, b: &[u8], out: &mut [u8]) -> FileW
     }
     write_checked(kind, n, m, b, out)
 }
+
+// The operations.
 
 // Writes the map file of a grid.
 pub fn write_map(n: usize, m: usize, grid: &[u8], out: &mut [u8]) -> FileWritten

@@ -57,7 +57,9 @@ add-t13 : tie.Need-add-t13
 add-t13 c = search needs
 
 returns-5 : tie.Need-returns-5
-returns-5 c = rw (c .before .wide2 .ensures .0, c .wide3 .ensures .0) (ap told (sym (two _ _ (omega arith) (omega arith) (c .before .before .if4 .left))))
+returns-5 c =
+    rw (c .before .wide2 .ensures .0, c .wide3 .ensures .0)
+    (ap told (sym (two _ _ (omega arith) (omega arith) (c .before .before .if4 .left))))
 
 pub read-number-spec : {M : Type 1} → statement M
 read-number-spec =

@@ -35,7 +35,8 @@ loop-again : tie.Need-loop-again Inv-loop μ-loop
 loop-again c = fill-step (c .before .before .loop .inv) _ (omega arith) (c .blank-mark .ensures)
 
 returns : tie.Need-returns Inv-loop μ-loop
-returns c = let a = c .before .before .args in fill-end (c .before .loop .inv) (omega arith) ∙ sym (blank-is (a .kind) (a .n) (a .m))
+returns c =
+    let a = c .before .before .args in fill-end (c .before .loop .inv) (omega arith) ∙ sym (blank-is (a .kind) (a .n) (a .m))
 
 pub blank-buffer-spec : {M : Type 1} → statement M
 blank-buffer-spec =

@@ -33,13 +33,17 @@ same-length : tie.Need-same-length
 same-length c = search needs
 
 returns : tie.Need-returns
-returns c = let a = c .before .before .before .before .before .before .before .before .before .before .before .before .before .args in
+returns c =
+    let a = c .before .before .before .before .before .before .before .before .before .before .before .before .before .args in
+    let r = c .before .before .before .before .before .before .before .before in
     c .before .before .fill .ensures
     ∙ ap (λ (x : Step × List ℕ). whole-file (now (a .s)) (a .head) (now (a .lent)) x)
-    (rw (c .before .before .before .before .before .end .given .1, c .before .before .before .before .before .before .before .before .before .before .blank-buffer .ensures) at (c .before .before .before .before .before .before .before .before .read-records .ensures))
+    (rw (c .before .before .before .before .before .end .given .1, r .before .before .blank-buffer .ensures) at (r .read-records .ensures))
 
 returns-2 : tie.Need-returns-2
-returns-2 c = sym (whole-refused _ _ _ _ _ (sym (rw (c .before .r .given .1, c .before .before .before .before .before .before .blank-buffer .ensures) at (c .before .before .before .before .read-records .ensures))))
+returns-2 c =
+    let r = c .before .before .before .before in
+    sym (whole-refused _ _ _ _ _ (sym (rw (c .before .r .given .1, r .before .before .blank-buffer .ensures) at (r .read-records .ensures))))
 
 pub read-body-spec : {M : Type 1} → statement M
 read-body-spec =

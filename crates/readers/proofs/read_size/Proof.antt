@@ -17,7 +17,9 @@ enum-told : tie.Need-enum-told
 enum-told c = search needs
 
 returns : tie.Need-returns
-returns c = c .enum-told .given .1 ∙ sym (size-refused _ _ _ (sym (number-kept _ _ (c .before .before .read-number .ensures)) ∙ c .enum-told .given .1))
+returns c =
+    c .enum-told .given .1 ∙ sym
+    (size-refused _ _ _ (sym (number-kept _ _ (c .before .before .read-number .ensures)) ∙ c .enum-told .given .1))
 
 cast-is-size : tie.Need-cast-is-size
 cast-is-size c = search needs
@@ -26,10 +28,16 @@ is-size-requires : tie.Need-is-size-requires
 is-size-requires c κs = search needs
 
 returns-2 : tie.Need-returns-2
-returns-2 c = sym (size-good _ _ _ _ (sym (number-kept _ _ (c .before .before .before .before .before .read-number .ensures)) ∙ c .before .before .before .a .given .1) (sym (c .before .is-size .ensures) ∙ c .if1 .taken))
+returns-2 c =
+    sym (size-good _ _ _ _
+    (sym (number-kept _ _ (c .before .before .before .before .before .read-number .ensures)) ∙ c .before .before .before .a .given .1)
+    (sym (c .before .is-size .ensures) ∙ c .if1 .taken))
 
 returns-3 : tie.Need-returns-3
-returns-3 c = sym (size-bad _ _ _ _ (sym (number-kept _ _ (c .before .before .before .before .before .read-number .ensures)) ∙ c .before .before .before .a .given .1) (sym (c .before .is-size .ensures) ∙ c .if1 .left))
+returns-3 c =
+    sym (size-bad _ _ _ _
+    (sym (number-kept _ _ (c .before .before .before .before .before .read-number .ensures)) ∙ c .before .before .before .a .given .1)
+    (sym (c .before .is-size .ensures) ∙ c .if1 .left))
 
 pub read-size-spec : {M : Type 1} → statement M
 read-size-spec =

@@ -26,7 +26,8 @@ check-plan-requires c κs = search needs
 
 returns : tie.Need-returns
 unfolding buffer-test
-returns c = let a = c .before .before .before .before .args in
+returns c =
+    let a = c .before .before .before .before .args in
     rw (c .before .enum-told .given .1)
     (c .check-map .ensures ∙ ap (λ (z : Bool). map-tests (a .n) (a .m) z (now (a .b))) (sym (and-one (long (now (a .b))))))
 

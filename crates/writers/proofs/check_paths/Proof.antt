@@ -14,7 +14,9 @@ use Rattle.writers.proofs.check_paths.Statement.{statement}
 use Rattle.writers.proofs.check_paths.Tie as tie
 
 abbrev Inv-loop : tie.InvT-loop
-Inv-loop n m directions p₀ p = Seeking (element-test (path-test n m) directions) (from-position (path-test n m) directions) (length directions) p (first-in (path-test n m) directions)
+Inv-loop n m directions p₀ p =
+    Seeking (element-test (path-test n m) directions) (from-position (path-test n m) directions) (length directions) p
+    (first-in (path-test n m) directions)
 
 abbrev μ-loop : tie.MeasureT-loop
 μ-loop n m directions p₀ p = 1024 - p

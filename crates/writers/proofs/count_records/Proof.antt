@@ -34,7 +34,8 @@ loop-less : tie.Need-loop-less Inv-loop μ-loop
 loop-less c = omega arith
 
 loop-again : tie.Need-loop-again Inv-loop μ-loop
-loop-again c = let s = c .before .before .before .before .loop .inv in
+loop-again c =
+    let s = c .before .before .before .before .loop .inv in
     let e = c .before .is-recorded .ensures _ in
     ⊎-elim
     (λ w. rw (w .1) (count-take s (omega arith) e (w .0 .taken)))

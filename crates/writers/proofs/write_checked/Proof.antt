@@ -31,7 +31,8 @@ needed c =
     )
 
 count-records-requires : tie.Need-count-records-requires
-count-records-requires c κs = let a = c .before .before .args in passed (a .kind) (a .n) (a .m) (now (a .b)) (c .before .before .pre) .is-long
+count-records-requires c κs =
+    let a = c .before .before .args in passed (a .kind) (a .n) (a .m) (now (a .b)) (c .before .before .pre) .is-long
 
 number-length-requires : tie.Need-number-length-requires
 number-length-requires c κs = search needs
@@ -46,11 +47,14 @@ add-needed-2 : tie.Need-add-needed-2
 add-needed-2 c = search needs
 
 returns : tie.Need-returns
-returns c = let a = c .before .before .before .before .before .before .args in
-    rw (needed (c .before)) (sym (put-short (file-bytes (a .kind) (a .n) (a .m) (now (a .b))) (now (a .out)) (omega (arith, needed (c .before)))))
+returns c =
+    let a = c .before .before .before .before .before .before .args in
+    rw (needed (c .before))
+    (sym (put-short (file-bytes (a .kind) (a .n) (a .m) (now (a .b))) (now (a .out)) (omega (arith, needed (c .before)))))
 
 write-parts-requires : tie.Need-write-parts-requires
-write-parts-requires c κs = let a = c .before .before .before .before .before .before .before .args in
+write-parts-requires c κs =
+    let a = c .before .before .before .before .before .before .before .args in
     let p = passed (a .kind) (a .n) (a .m) (now (a .b)) (c .before .before .before .before .before .before .before .pre) in
     record {
       rows = p .sizes .rows-high;
@@ -65,9 +69,11 @@ same-length : tie.Need-same-length
 same-length c = search needs
 
 returns-2 : tie.Need-returns-2
-returns-2 c = let a = c .before .before .before .before .before .before .before .before .before .before .args in
+returns-2 c =
+    let a = c .before .before .before .before .before .before .before .before .before .before .args in
     let w = c .before .before .write-parts .ensures in
-    rw (w .0, w .1) (sym (put-stored (file-bytes (a .kind) (a .n) (a .m) (now (a .b))) (now (a .out)) (omega (arith, needed (c .before .before .before .before .before)))))
+    rw (w .0, w .1) (sym (put-stored (file-bytes (a .kind) (a .n) (a .m) (now (a .b))) (now (a .out))
+    (omega (arith, needed (c .before .before .before .before .before)))))
 
 pub write-checked-spec : {M : Type 1} → statement M
 write-checked-spec =

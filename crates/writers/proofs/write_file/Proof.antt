@@ -14,8 +14,10 @@ enum-known-v : tie.Need-enum-known-v
 enum-known-v c = search needs
 
 returns : tie.Need-returns
-returns c = let a = c .before .before .before .before .before .before .args in
-    sym (file-refused (a .kind) (a .n) (a .m) (now (a .b)) (now (a .out)) _ (sym (c .before .before .before .check-buffer .ensures) ∙ c .before .v .given .1))
+returns c =
+    let a = c .before .before .before .before .before .before .args in
+    sym (file-refused (a .kind) (a .n) (a .m) (now (a .b)) (now (a .out)) _
+    (sym (c .before .before .before .check-buffer .ensures) ∙ c .before .v .given .1))
 
 enum-told : tie.Need-enum-told
 enum-told c = search needs
@@ -27,9 +29,12 @@ same-length : tie.Need-same-length
 same-length c = search needs
 
 returns-2 : tie.Need-returns-2
-returns-2 c = let a = c .before .before .before .before .before .before .before .before .before .args in
+returns-2 c =
+    let a = c .before .before .before .before .before .before .before .before .before .args in
     c .before .before .write-checked .ensures
-    ∙ sym (file-accepted (a .kind) (a .n) (a .m) (now (a .b)) (now (a .out)) (sym (c .before .before .before .before .before .before .check-buffer .ensures) ∙ c .before .before .before .before .enum-told .given .1))
+    ∙ sym (file-accepted (a .kind) (a .n) (a .m) (now (a .b)) (now (a .out))
+    (sym (c .before .before .before .before .before .before .check-buffer .ensures)
+    ∙ c .before .before .before .before .enum-told .given .1))
 
 pub write-file-spec : {M : Type 1} → statement M
 write-file-spec =

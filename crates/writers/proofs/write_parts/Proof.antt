@@ -14,13 +14,19 @@ use Rattle.writers.proofs.write_parts.Statement.{statement}
 use Rattle.writers.proofs.write_parts.Tie as tie
 
 write-pair-requires : tie.Need-write-pair-requires
-write-pair-requires c κs = let a = c .before .before .before .args in
+write-pair-requires c κs =
+    let a = c .before .before .before .args in
     let f = c .before .before .before .pre in
-    let r = run-start (now (a .out)) 0 (file-bytes (a .kind) (a .n) (a .m) (now (a .b))) (omega (arith, f .room)) in
-    (omega (arith, f .rows), omega (arith, f .columns), run-room r (sizes-first (a .kind) (a .n) (a .m) (a .count) (now (a .b)) (f .counted)))
+    let r = run-start (now (a .out)) 0 (file-bytes (a .kind) (a .n) (a .m) (now (a .b))) (omega (arith, f .room)) in (
+      omega (arith, f .rows),
+      omega (arith, f .columns),
+      run-room r
+          (sizes-first (a .kind) (a .n) (a .m) (a .count) (now (a .b)) (f .counted)),
+    )
 
 write-number-requires : tie.Need-write-number-requires
-write-number-requires c κs = let a = c .before .before .before .before .before .before .before .args in
+write-number-requires c κs =
+    let a = c .before .before .before .before .before .before .before .args in
     let f = c .before .before .before .before .before .before .before .pre in
     let w = c .before .before .before .write-pair .ensures in
     let r = run-start (now (a .out)) 0 (file-bytes (a .kind) (a .n) (a .m) (now (a .b))) (omega (arith, f .room)) in
@@ -28,7 +34,8 @@ write-number-requires c κs = let a = c .before .before .before .before .before 
     (omega (arith, f .few), run-room s (splits (bytes-of (a .count)) (records-of (a .kind) (now (a .b)))))
 
 write-records-requires : tie.Need-write-records-requires
-write-records-requires c κs = let a = c .before .before .before .before .before .before .before .before .before .before .before .args in
+write-records-requires c κs =
+    let a = c .before .before .before .before .before .before .before .before .before .before .before .args in
     let f = c .before .before .before .before .before .before .before .before .before .before .before .pre in
     let w = c .before .before .before .before .before .before .before .write-pair .ensures in
     let x = c .before .before .before .write-number .ensures in
@@ -41,7 +48,8 @@ same-length : tie.Need-same-length
 same-length c = search needs
 
 returns : tie.Need-returns
-returns c = let a = c .before .before .before .before .before .before .before .before .before .before .before .before .before .before .args in
+returns c =
+    let a = c .before .before .before .before .before .before .before .before .before .before .before .before .before .before .args in
     let f = c .before .before .before .before .before .before .before .before .before .before .before .before .before .before .pre in
     let w = c .before .before .before .before .before .before .before .before .before .before .write-pair .ensures in
     let x = c .before .before .before .before .before .before .write-number .ensures in

@@ -12,14 +12,17 @@ use Rattle.writers.proofs.write_record.Statement.{statement}
 use Rattle.writers.proofs.write_record.Tie as tie
 
 write-pair-requires : tie.Need-write-pair-requires
-write-pair-requires c κs = let a = c .before .before .args in
+write-pair-requires c κs =
+    let a = c .before .before .args in
     let r = run-start (now (a .out)) (a .at) (record-bytes (a .kind) (a .p) (a .v)) (c .before .before .pre .1) in
     (omega arith, omega arith, run-room r (pair-first (a .kind) (a .p) (a .v)))
 
 write-value-requires : tie.Need-write-value-requires
-write-value-requires c κs = let a = c .before .before .before .before .before .before .args in
+write-value-requires c κs =
+    let a = c .before .before .before .before .before .before .args in
     let w = c .before .before .before .write-pair .ensures in
-    let r = run-start (now (a .out)) (a .at) (record-bytes (a .kind) (a .p) (a .v)) (c .before .before .before .before .before .before .pre .1) in
+    let r = run-start (now (a .out)) (a .at) (record-bytes (a .kind) (a .p) (a .v))
+    (c .before .before .before .before .before .before .pre .1) in
     let s = run-step r (pair-first (a .kind) (a .p) (a .v)) (w .0) (w .1) in
     run-room s (splits-all (value-bytes (a .kind) (a .v)))
 
@@ -27,10 +30,12 @@ same-length : tie.Need-same-length
 same-length c = search needs
 
 returns : tie.Need-returns
-returns c = let a = c .before .before .before .before .before .before .before .before .before .args in
+returns c =
+    let a = c .before .before .before .before .before .before .before .before .before .args in
     let w = c .before .before .before .before .before .before .write-pair .ensures in
     let x = c .before .before .write-value .ensures in
-    let r = run-start (now (a .out)) (a .at) (record-bytes (a .kind) (a .p) (a .v)) (c .before .before .before .before .before .before .before .before .before .pre .1) in
+    let r = run-start (now (a .out)) (a .at) (record-bytes (a .kind) (a .p) (a .v))
+    (c .before .before .before .before .before .before .before .before .before .pre .1) in
     let s = run-step r (pair-first (a .kind) (a .p) (a .v)) (w .0) (w .1) in
     run-end (run-step s (splits-all (value-bytes (a .kind) (a .v))) (x .0) (x .1)) refl
 

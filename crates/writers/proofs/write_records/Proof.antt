@@ -22,8 +22,12 @@ shared-slice-read-write-element : tie.Need-shared-slice-read-write-element Inv-l
 shared-slice-read-write-element c = omega arith
 
 write-element-requires : tie.Need-write-element-requires Inv-loop μ-loop
-write-element-requires c κs = let a = c .before .before .before .before .before .before .args in
-    (omega arith, run-room (c .before .before .before .loop .inv .1) (records-turn (a .kind) (now (a .b)) (c .before .before .before .loop .p) (omega arith)))
+write-element-requires c κs =
+    let a = c .before .before .before .before .before .before .args in (
+      omega arith,
+      run-room (c .before .before .before .loop .inv .1)
+          (records-turn (a .kind) (now (a .b)) (c .before .before .before .loop .p) (omega arith)),
+    )
 
 add-p : tie.Need-add-p Inv-loop μ-loop
 add-p c = omega arith
@@ -32,15 +36,20 @@ loop-less : tie.Need-loop-less Inv-loop μ-loop
 loop-less c = omega arith
 
 loop-again : tie.Need-loop-again Inv-loop μ-loop
-loop-again c = let a = c .before .before .before .before .before .before .before .before .before .args in
-    let w = c .before .before .write-element .ensures in
-    (omega arith, run-step (c .before .before .before .before .before .before .loop .inv .1) (records-turn (a .kind) (now (a .b)) (c .before .before .before .before .before .before .loop .p) (omega arith)) (w .0) (w .1))
+loop-again c =
+    let a = c .before .before .before .before .before .before .before .before .before .args in
+    let w = c .before .before .write-element .ensures in (
+      omega arith,
+      run-step (c .before .before .before .before .before .before .loop .inv .1)
+          (records-turn (a .kind) (now (a .b)) (c .before .before .before .before .before .before .loop .p) (omega arith)) (w .0) (w .1),
+    )
 
 same-length : tie.Need-same-length Inv-loop μ-loop
 same-length c = c .before .loop .inv .1 .long
 
 returns : tie.Need-returns Inv-loop μ-loop
-returns c = let a = c .before .before .before .before .args in
+returns c =
+    let a = c .before .before .before .before .args in
     run-end (c .before .loop .inv .1) (records-end (a .kind) (now (a .b)) (c .before .loop .p) (omega arith))
 
 pub write-records-spec : {M : Type 1} → statement M
