@@ -3,15 +3,12 @@ use array::Refusal;
 use formats::Kind;
 use formats::Number;
 ghost use mathlib.Core.Path.{_≡_};
-ghost use Prim.Native.Nat.{_+_, _*_, _<_, _≤_};
+ghost use Prim.Native.Nat.{_≤_};
 ghost use lib.ListN.{length};
-ghost use Rattle.array.specs.Place.{position};
-ghost use Rattle.array.specs.declared.Refusal.{Refusal};
 ghost use Rattle.formats.specs.Number.{size-at};
 ghost use Rattle.formats.specs.Records.{blank};
 ghost use Rattle.readers.specs.Reading.{told, record-at, records-at, whole-file, read-file, read-map, read-plan};
 ghost use Rattle.readers.specs.Parts.{blank-mark, stands-at, value-at, is-value, marked};
-ghost use Rattle.readers.specs.declared.Head.{Head};
 ghost use Rattle.readers.specs.declared.Step.the-variants.{Next};
 
 // A record is read, with the offset after it, or refused.
