@@ -48,10 +48,6 @@ module _ (kind : Kind) (n m : ℕ) where
   abbrev blanks : ℕ → ℕ → List ℕ
   blanks p k = span (blank-mark kind n m) p k
 
-  blanks-cons : (p k : ℕ) → blanks p (suc k) ≡ blank-mark kind n m p ∷ blanks (suc p) k
-  unfolding span
-  blanks-cons p k = refl
-
   heads :
       (p x : ℕ) (xs : List ℕ) →
       first-along (element-test kind n m) p (x ∷ xs) ≡ Accepted →

@@ -9,7 +9,7 @@ ghost use Rattle.formats.specs.Records.{recorded};
 ghost use Rattle.array.specs.declared.Refusal.{Refusal};
 ghost use Rattle.formats.specs.declared.Number.the-variants.{Refused};
 
-// A number either is read, with the offset after it, or is refused.
+// What reading a number answers: its value with the offset behind it, or the refusal.
 pub enum Number {
     Read(u32, usize),
     Refused(Refusal),

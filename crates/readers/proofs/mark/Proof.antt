@@ -46,17 +46,21 @@ is-recorded-requires c κs = search needs
 
 returns-2 : tie.Need-returns-2
 returns-2 c =
-    sym (cond-taken _ _ (c .before .before .before .before .may-stand .ensures) (stands (c .before .before .before)) ∙ cond-taken _ _
-    (c .before .is-recorded .ensures _) (c .if2 .taken))
+    let d = c .before .before .before in
+    sym
+    (cond-taken _ _ (d .before .may-stand .ensures) (stands d)
+    ∙ cond-taken _ _ (c .before .is-recorded .ensures _) (c .if2 .taken))
 
 may-write-requires : tie.Need-may-write-requires
 may-write-requires c κs = search needs
 
 returns-3 : tie.Need-returns-3
 returns-3 c =
-    sym (cond-taken _ _ (c .before .before .before .before .before .before .may-stand .ensures)
-    (stands (c .before .before .before .before .before)) ∙ cond-left _ _ (c .before .before .before .is-recorded .ensures _)
-    (c .before .before .if2 .left) ∙ cond-left _ _ (c .before .may-write .ensures) (not-true _ (c .if3 .taken)))
+    let d = c .before .before .before .before .before in
+    sym
+    (cond-taken _ _ (d .before .may-stand .ensures) (stands d)
+    ∙ cond-left _ _ (c .before .before .before .is-recorded .ensures _) (c .before .before .if2 .left)
+    ∙ cond-left _ _ (c .before .may-write .ensures) (not-true _ (c .if3 .taken)))
 
 cast-b : tie.Need-cast-b
 cast-b c =
@@ -71,9 +75,11 @@ same-length c = search needs
 
 returns-4 : tie.Need-returns-4
 returns-4 c =
-    sym (cond-taken _ _ (c .before .before .before .before .before .before .may-stand .ensures)
-    (stands (c .before .before .before .before .before)) ∙ cond-left _ _ (c .before .before .before .is-recorded .ensures _)
-    (c .before .before .if2 .left) ∙ cond-taken _ _ (c .before .may-write .ensures) (not-false _ (c .if3 .left)))
+    let d = c .before .before .before .before .before in
+    sym
+    (cond-taken _ _ (d .before .may-stand .ensures) (stands d)
+    ∙ cond-left _ _ (c .before .before .before .is-recorded .ensures _) (c .before .before .if2 .left)
+    ∙ cond-taken _ _ (c .before .may-write .ensures) (not-false _ (c .if3 .left)))
 
 pub mark-spec : {M : Type 1} → statement M
 mark-spec =
