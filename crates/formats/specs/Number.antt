@@ -1,7 +1,7 @@
--- Document 01, "Files": a number is one or two groups of seven bits, low group first, with the top bit set on all bytes but the last, in its
--- shortest form; it is at most 16,383. s is the file, `at` the number's offset. Assumes nothing.
+-- Document 01, "Files": the numbers of a file. Below 128 a number is one byte; else two, the first with the low seven bits and its top bit set;
+-- 16,383 is the highest. s is the file, `at` the number's offset. Assumes nothing.
 use Prim.Native.Nat.{ℕ, _+_, _-_, _*_, _/_, _%_}
-use mathlib.Core.Bool.{Bool, cond, _||_}
+use mathlib.Core.Bool.{cond, _||_}
 use mathlib.Core.List.{List, [], _∷_}
 use lib.Dec.{ltb, leb, eqb}
 use lib.ListN.{length, getD}

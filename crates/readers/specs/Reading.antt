@@ -9,7 +9,6 @@ use Rattle.array.specs.Place.{position, inner-at, processor-at}
 use Rattle.array.specs.Tests.{refusal, Told, accepts, refuses-as}
 use Rattle.array.specs.Buffer.{long}
 use Rattle.array.specs.Map.{faulty}
-use Rattle.array.specs.declared.Refusal.{Refusal}
 use Rattle.formats.specs.Number.{number-at, size-at, read-or}
 use Rattle.formats.specs.Records.{blank}
 use Rattle.formats.specs.declared.Kind.{Kind}
