@@ -246,6 +246,15 @@ module _ (kind : Kind) (n m : ℕ) where
           let z : _≡_ {A = ℕ} 0 1 = cc (sym h ∙ ap (λ (x : FileWritten × List ℕ). x .0) (file-refused kind n m b out r a)) in
           absurd (omega arith)
 
+file-written : (kind : Kind) (n m : ℕ) (b out : List ℕ) → buffer-test kind n m b ≡ Accepted
+    → length (file-bytes kind n m b) ≤ length out → write-file kind n m b out .0 ≡ written.Length (length (file-bytes kind n m b))
+file-written kind n m b out a l =
+    ap (λ (x : FileWritten × List ℕ). x .0) (file-accepted kind n m b out a ∙ put-whole (file-bytes kind n m b) out l)
+
 pub round-trip : Round-trip
 round-trip =
-    record { number-unchanged = number-unchanged; file-unchanged = λ kind n m k b out lent w h. file-unchanged kind n m k b out lent w h }
+    record {
+      number-unchanged = number-unchanged;
+      file-written = file-written;
+      file-unchanged = λ kind n m k b out lent w h. file-unchanged kind n m k b out lent w h;
+    }

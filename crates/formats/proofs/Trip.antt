@@ -1,4 +1,4 @@
--- A number that is written and read again is unchanged, whatever stands before and behind.
+-- A number that is written is read back, whatever stands before and behind.
 -- Assumes nothing.
 use Prim.Native.Nat.{ℕ, _+_, _/_, _%_, _<_, _≤_}
 use mathlib.Core.Path.{_≡_, ap, _∙_}

@@ -19,7 +19,8 @@ told (Refused r) = refuses-as r
 abbrev pub refused : ℕ → ℕ → Number
 refused k p = Refused (refusal k p 0)
 
--- 8: the file ends early; place is its length. 9: the second byte has its top bit set, or the number is not shortest; place is its start.
+-- 8: the bytes run out, and the place is how many there are. 9: at the number's start, where the second byte is not the last of a shortest
+-- form: it is 0, or its top bit is set.
 unfoldable pub number-at : List ℕ → ℕ → Number
 number-at s at =
     cond (leb (length s) at) (refused 8 (length s))

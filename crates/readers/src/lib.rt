@@ -11,7 +11,7 @@ ghost use Rattle.readers.specs.Reading.{told, record-at, records-at, who
 ghost use Rattle.readers.specs.Parts.{blank-mark, stands-at, value-at, is-value, marked};
 ghost use Rattle.readers.specs.declared.Step.the-variants.{Next};
 
-// A record is read, with the offset after it, or refused.
+// What reading a record gives: the offset after it, or the refusal.
 pub enum Step {
     Next(usize),
     Refused(Refusal),
