@@ -176,7 +176,7 @@ map-of : (n m : ℕ) (grid directions : List ℕ) → check-plan n m grid direct
 unfolding plan-tests
 map-of n m grid directions h =
     let a = both-accepted (map-tests n m (long grid && (long directions && true)) grid)
-            (or-else (directions-test n m grid directions) (paths-test n m grid (directed-faults n m grid directions))) h in
+    (or-else (directions-test n m grid directions) (paths-test n m grid (directed-faults n m grid directions))) h in
     (a .0, map-accepted n m (long grid && (long directions && true)) grid (a .0) .lengths)
 
 holds-plan : (n m : ℕ) (grid directions : List ℕ) → check-plan n m grid directions ≡ Accepted → Holds-plan n m grid directions
