@@ -8,3 +8,4 @@ pub mod Positions
 pub mod Answers
 pub mod Marks
 pub mod Maps
+pub mod Formed

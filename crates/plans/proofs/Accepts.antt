@@ -12,10 +12,10 @@ use Rattle.array.specs.Tests.{or-else}
 use Rattle.array.specs.Buffer.{long}
 use Rattle.array.specs.Map.{map-tests, well-formed, inner-faulty, inner-fault}
 use Rattle.array.specs.declared.Verdict.the-variants.{Accepted}
-use Rattle.array.proofs.Bools.{and-true, or-false, by-bool}
+use Rattle.array.proofs.Bools.{or-false, by-bool}
 use Rattle.array.proofs.Verdicts.{both-accepted, accept-both, accepted-false, false-accepted, accepted-not}
 use Rattle.array.proofs.Scans.{buffer-scan, scan-each, scan-each-from, scan-all, scan-all-from}
-use Rattle.array.proofs.Maps.{Accepted-map, map-accepted}
+use Rattle.array.proofs.Formed.{Formed, formed}
 use Rattle.array.proofs.Positions.{position-index}
 use Rattle.array.proofs.Marks.{mark-read}
 use Rattle.paths.specs.Path.{is-open, meet, near-miss, pair-test}
@@ -53,30 +53,29 @@ straight-right d l h =
     rw (a, b)
 
 -- The check and the plan, on a well-formed map.
-module _ (n m : ℕ) (grid directions : List ℕ) (formed : well-formed n m grid ≡ Accepted) (wide : length directions ≡ 1024) where
+module _ (n m : ℕ) (grid directions : List ℕ) (accepted-map : well-formed n m grid ≡ Accepted) (wide : length directions ≡ 1024) where
   abbrev starts : List ℕ
   starts = faults n m grid
 
   abbrev ds : List ℕ
   ds = directions-at directions starts
 
-  map : Accepted-map n m (long grid && true) grid
-  map = map-accepted n m (long grid && true) grid formed
-
-  grid-long : length grid ≡ 1024
-  grid-long = eqb-true (length grid) 1024 (and-true (long grid) true (map .lengths) .0)
+  map : Formed n m grid
+  map = formed n m grid accepted-map
 
   same : length ds ≡ length starts
   same = directions-length directions starts
 
   right : (long grid && (long directions && true)) ≡ true
-  right = rw (eq-eqb (length grid) 1024 grid-long, eq-eqb (length directions) 1024 wide)
+  right = rw (eq-eqb (length grid) 1024 (map .length-is), eq-eqb (length directions) 1024 wide)
 
   formed-right : map-tests n m (long grid && (long directions && true)) grid ≡ Accepted
-  formed-right = ap (λ (b : Bool). map-tests n m b grid) (right ∙ sym (map .lengths)) ∙ formed
+  formed-right =
+      let e : (long grid && true) ≡ true = rw (eq-eqb (length grid) 1024 (map .length-is)) in
+      ap (λ (b : Bool). map-tests n m b grid) (right ∙ sym e) ∙ accepted-map
 
   sound : Sound n m grid directions
-  sound = record { rows = map .sizes .rows-high; columns = map .sizes .columns-high; grid-long = grid-long; directions-long = wide }
+  sound = record { rows = map .sizes .rows-high; columns = map .sizes .columns-high; grid-long = map .length-is; directions-long = wide }
 
   -- from the check to the plan
   module _ (directed : directions-test n m grid directions ≡ Accepted) (opens : opens-test n m grid (paired starts ds) ≡ Accepted)
@@ -133,7 +132,7 @@ module _ (n m : ℕ) (grid directions : List ℕ) (formed : well-formed n m grid
     direction-right p h =
         by-bool (inner-fault n m grid p)
         (λ f.
-        let e : wrong-direction (inner-fault n m grid p) (getD directions p 0) ≡ false = rw f (at-fault p (omega (arith, grid-long)) f) in
+        let e : wrong-direction (inner-fault n m grid p) (getD directions p 0) ≡ false = rw f (at-fault p (omega (arith, map .length-is)) f) in
         false-accepted 4 p 0 e)
         (λ f.
         let e : wrong-direction (inner-fault n m grid p) (getD directions p 0) ≡ false = rw (f, elsewhere p (omega arith) f) in
@@ -172,5 +171,5 @@ module _ (n m : ℕ) (grid directions : List ℕ) (formed : well-formed n m grid
       (planned (b .0) (d .0) (d .1), nothing-else (b .0) (d .0) (d .1))
 
 pub accepts-plans : Accepts-plans
-accepts-plans n m grid directions formed wide =
-    (checked n m grid directions formed wide, λ h. accepted n m grid directions formed wide (h .0) (h .1))
+accepts-plans n m grid directions map wide =
+    (checked n m grid directions map wide, λ h. accepted n m grid directions map wide (h .0) (h .1))

@@ -1,4 +1,7 @@
 // Placement, switches and links.
+ghost use mathlib.Core.Path.{_≡_};
+ghost use Prim.Native.Nat.{_≤_};
+ghost use Rattle.track.specs.Letters.{letter};
 use array::Refusal;
 
 // Where the follower comes out: the position entered, the port entered by (0 W, 1 E, 2 N, 3 S) and the number of switches passed.
@@ -12,4 +15,19 @@ pub struct Landing {
 pub enum Followed {
     Entered(Landing),
     Refused(Refusal),
+}
+
+// The functions of this crate are inner parts of the operations.
+
+// The letter of a switch, from the routing states of the two processors beside it: west and east, or upper and lower.
+pub fn switch_letter(west: u8, east: u8) -> u8
+    requires { ⌜ (west ≤ 4) × (east ≤ 4) ⌝ }
+    ensures { λ r. ⌜ r ≡ letter west east ⌝ }
+{
+    match west * 5 + east {
+        13 | 17 => b'a',
+        1..=2 | 11 | 15 | 20 | 23 => b'c',
+        3..=5 | 7 | 10 | 19 => b'd',
+        _ => b'b',
+    }
 }
