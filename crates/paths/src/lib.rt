@@ -20,7 +20,7 @@ fn choose(d: u8, south: usize, north: usize, east: usize, west: usize, other: us
 }
 
 // How many processors a path has.
-fn length_of(n: usize, m: usize, p: usize, d: u8) -> usize
+pub fn length_of(n: usize, m: usize, p: usize, d: u8) -> usize
     requires { ⌜ Start n m p d ⌝ }
     ensures { λ r. ⌜ r ≡ path-length n m p d ⌝ }
 {

@@ -20,7 +20,7 @@ pub struct Fault {
 
 // check_plan is for callers; the other functions are its inner parts and have a `requires`.
 
-fn wide(x: u16) -> usize
+pub fn wide(x: u16) -> usize
     ensures { λ r. ⌜ r ≡ x ⌝ }
 {
     x as usize
@@ -66,7 +66,7 @@ fn check_directions(n: usize, m: usize, grid: &[u8], directions: &[u8]) -> Verdi
 }
 
 // Writes the direction at each of these positions.
-fn take_directions(directions: &[u8], starts: &[u16], out: &mut [u8])
+pub fn take_directions(directions: &[u8], starts: &[u16], out: &mut [u8])
     requires { ⌜ (length (now out) ≡ length (now starts)) × ((k : ℕ) → k < length (now starts) → getD (now starts) k 0 < length (now directions)) ⌝ }
     ensures { λ _. ⌜ now (out .exit) ≡ directions-at (now (directions .entry)) (now (starts .entry)) ⌝ }
 {
