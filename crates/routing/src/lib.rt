@@ -1,0 +1,1 @@
+// Inner parts of placement and routing.
