@@ -7,7 +7,7 @@ use lib.ListN.{getD, set}
 use Rattle.array.specs.Place.{row, column, inner}
 use Rattle.array.specs.Buffer.{buffer}
 use Rattle.array.specs.Map.{faulty}
-use Rattle.paths.specs.Path.{ahead}
+use Rattle.paths.specs.Path.{by-direction, ahead}
 use Rattle.plans.specs.Faults.{directed-faults}
 use Rattle.track.specs.Placement.{through}
 use Rattle.track.specs.Letters.{vertical, horizontal, letter, across-exists, down-exists}
@@ -24,6 +24,10 @@ traced-paths n m grid directions = buffer (through n m (directed-faults n m grid
 -- where the cell of p sits, by the path through p
 abbrev pub placed-by : ℕ → ℕ → List ℕ → ℕ → ℕ
 placed-by n m traced p = cond (inner n m p) (ahead p (getD traced p 0) 1) 0
+
+-- a direction with the grid transposed: east for south, west for north, and back
+abbrev pub transposed : ℕ → ℕ
+transposed d = by-direction d 3 4 1 2 d
 
 -- of both kinds of switch: whether one is filed under p, the position of its second processor, and the routing state that it goes by
 abbrev pub switch-exists : Bool → ℕ → ℕ → ℕ → Bool
