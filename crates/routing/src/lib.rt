@@ -80,7 +80,7 @@ fn trace_paths(n: usize, m: usize, grid: &[u8], directions: &[u8], out: &mut [u8
 // Inner part: the next processor in direction d, or p itself.
 fn next_to(p: usize, d: u8) -> usize
     requires { ⌜ (32 ≤ p) × (p < 1024) ⌝ }
-    ensures { λ r. ⌜ r ≡ ahead p d 1 ⌝ }
+    ensures { λ r. ⌜ (r ≡ ahead p d 1) × (r < 2048) ⌝ }
 {
     match d {
         1 => p + 32,
@@ -215,13 +215,13 @@ fn letter_at(n: usize, m: usize, grid: &[u8], traced: &[u8], down: bool, p: usiz
     requires { ⌜ (n ≤ 30) × (m ≤ 30) × (length (now grid) ≡ 1024) × (length (now traced) ≡ 1024) × (p < 1024) ⌝ }
     ensures { λ r. ⌜ r ≡ letter-by down n m (now (grid .entry)) (now (traced .entry)) p ⌝ }
 {
-    if !is_switch(n, m, down, p) {
-        return 0;
+    if is_switch(n, m, down, p) {
+        return track::switch_letter(
+            state_at(grid, traced, down, p),
+            state_at(grid, traced, down, second_of(down, p)),
+        );
     }
-    track::switch_letter(
-        state_at(grid, traced, down, p),
-        state_at(grid, traced, down, second_of(down, p)),
-    )
+    0
 }
 
 // Inner part: writes the letters of the down switches or of the across switches.

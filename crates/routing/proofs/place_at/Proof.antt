@@ -20,7 +20,7 @@ next-to-requires c κs = ?
 
 -- src/lib.rt:100:16
 cast-result : tie.Need-cast-result
-cast-result c = ?
+cast-result c = search needs
 
 -- src/lib.rt:100:9
 returns : tie.Need-returns
