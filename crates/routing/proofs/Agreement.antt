@@ -56,10 +56,10 @@ processor-low n m x y h =
 module _ (n m : ℕ) (hn : n ≤ 30) (hm : m ≤ 30) where
   pub second-within : (down : Bool) (p : ℕ) → switch-exists down n m p ≡ true → second-at down p < 1024
   second-within true p h =
-      let a = processor-low n m (row p + 1) (column p) (and-true _ _ h .1) in
+      let a = processor-low n m (row p + 1) (column p) (and-true (processor-at n m (row p) (column p)) _ h .1) in
       omega (arith, a .0)
   second-within false p h =
-      let a = processor-low n m (row p) (column p + 1) (and-true _ _ h .1) in
+      let a = processor-low n m (row p) (column p + 1) (and-true (processor-at n m (row p) (column p)) _ h .1) in
       omega (arith, a .0, a .1)
 
   -- the letter under p, where f gives the direction of the path through a position

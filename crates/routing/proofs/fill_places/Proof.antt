@@ -1,50 +1,45 @@
+-- `routing::fill_places` meets its contract: a fill by position.
+-- Assumes nothing.
+use Prim.Native.Nat.{_-_}
+use Rattle.array.proofs.Fills.{Filling, fill-start, fill-step, fill-end}
+use Rattle.routing.specs.Inner.{placed-by}
+use native.Mathlib.Omega.{arith}
+use borrow.Author.Needs.{needs}
 use Rattle.routing.proofs.fill_places.Statement.{statement}
 use Rattle.routing.proofs.fill_places.Tie as tie
-use Rattle.routing.proofs.fill_places.Reads as reads
-use Rattle.routing.proofs.fill_places.Lts as lts
-use Rattle.routing.proofs.place_at.Reads as place-at-reads
 
 abbrev Inv-loop : tie.InvT-loop
-Inv-loop n m traced places₀ p₀ places p = ?
+Inv-loop n m traced places₀ p₀ places p = Filling (placed-by n m traced) 1024 p places
 
 abbrev μ-loop : tie.MeasureT-loop
-μ-loop n m traced places₀ p₀ places p = ?
+μ-loop n m traced places₀ p₀ places p = 1024 - p
 
--- src/lib.rt:110:5
 loop-holds : tie.Need-loop-holds Inv-loop μ-loop
-loop-holds c = ?
+loop-holds c = fill-start _ _ (omega arith)
 
--- src/lib.rt:111:21
 place-at-requires : tie.Need-place-at-requires Inv-loop μ-loop
-place-at-requires c κs = ?
+place-at-requires c κs = search needs
 
--- src/lib.rt:111:9
 mul-places : tie.Need-mul-places Inv-loop μ-loop
-mul-places c = ?
+mul-places c = omega arith
 
--- src/lib.rt:111:9
 slice-write-places : tie.Need-slice-write-places Inv-loop μ-loop
-slice-write-places c = ?
+slice-write-places c = omega arith
 
--- src/lib.rt:110:9
 add-p : tie.Need-add-p Inv-loop μ-loop
-add-p c = ?
+add-p c = omega arith
 
--- src/lib.rt:110:5
 loop-less : tie.Need-loop-less Inv-loop μ-loop
-loop-less c = ?
+loop-less c = omega arith
 
--- src/lib.rt:110:5
 loop-again : tie.Need-loop-again Inv-loop μ-loop
-loop-again c = ?
+loop-again c = fill-step (c .before .before .loop .inv) _ (omega arith) (c .place-at .ensures)
 
--- src/lib.rt:106:1
 same-length : tie.Need-same-length Inv-loop μ-loop
-same-length c = ?
+same-length c = omega (arith, c .before .loop .inv .long)
 
--- src/lib.rt:106:1
 returns : tie.Need-returns Inv-loop μ-loop
-returns c = ?
+returns c = fill-end (c .before .loop .inv) (omega arith)
 
 pub fill-places-spec : {M : Type 1} → statement M
 fill-places-spec =

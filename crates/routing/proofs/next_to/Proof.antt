@@ -1,44 +1,40 @@
+-- `routing::next_to` meets its contract, arm by arm.
+-- Assumes nothing.
+use borrow.Author.Tests.{ne-eqb}
 use borrow.Author.Needs.{needs}
+use native.Mathlib.Omega.{arith}
 use Rattle.routing.proofs.next_to.Statement.{statement}
 use Rattle.routing.proofs.next_to.Tie as tie
-use Rattle.routing.proofs.next_to.Reads as reads
-use Rattle.routing.proofs.next_to.Lts as lts
 
--- src/lib.rt:86:14
 add-result : tie.Need-add-result
 add-result c = search needs
 
--- src/lib.rt:87:14
 sub-result : tie.Need-sub-result
 sub-result c = search needs
 
--- src/lib.rt:88:14
 add-result-2 : tie.Need-add-result-2
 add-result-2 c = search needs
 
--- src/lib.rt:89:14
 sub-result-2 : tie.Need-sub-result-2
 sub-result-2 c = search needs
 
--- src/lib.rt:81:1
 returns : tie.Need-returns
-returns c = ?
+returns c = (rw (c .match .keys1), omega (arith, c .before .pre))
 
--- src/lib.rt:81:1
 returns-2 : tie.Need-returns-2
-returns-2 c = ?
+returns-2 c = (rw (c .match .keys2), omega (arith, c .before .pre))
 
--- src/lib.rt:81:1
 returns-3 : tie.Need-returns-3
-returns-3 c = ?
+returns-3 c = (rw (c .match .keys3), omega (arith, c .before .pre))
 
--- src/lib.rt:81:1
 returns-4 : tie.Need-returns-4
-returns-4 c = ?
+returns-4 c = (rw (c .match .keys4), omega (arith, c .before .pre))
 
--- src/lib.rt:81:1
 returns-5 : tie.Need-returns-5
-returns-5 c = ?
+returns-5 c = (
+      simp (ne-eqb _ _ (c .match .rest .1), ne-eqb _ _ (c .match .rest .0 .1), ne-eqb _ _ (c .match .rest .0 .0 .1), ne-eqb _ _ (c .match .rest .0 .0 .0 .1)),
+      omega (arith, c .before .pre),
+    )
 
 pub next-to-spec : {M : Type 1} → statement M
 next-to-spec =

@@ -1,34 +1,33 @@
+-- `routing::place_at` meets its contract: an inner position is off the edge, so the next processor is there.
+-- Assumes nothing.
+use mathlib.Core.Path.{_≡_, sym, _∙_}
+use Rattle.array.proofs.Places.{Inner, inner-holds}
+use Rattle.array.proofs.Bools.{cond-taken, cond-left}
 use borrow.Author.Needs.{needs}
+use native.Mathlib.Omega.{arith}
 use Rattle.routing.proofs.place_at.Statement.{statement}
 use Rattle.routing.proofs.place_at.Tie as tie
-use Rattle.routing.proofs.place_at.Reads as reads
-use Rattle.routing.proofs.place_at.Lts as lts
-use Rattle.array.proofs.is_inner.Reads as is-inner-reads
-use Rattle.routing.proofs.next_to.Reads as next-to-reads
 
--- src/lib.rt:99:8
+is-inside : (c : tie.Then1) → let a = c .before .before .before .args in Inner (a .n) (a .m) (a .p)
+is-inside c = let a = c .before .before .before .args in inner-holds (a .n) (a .m) (a .p) (sym (c .before .is-inner .ensures) ∙ c .if1 .taken)
+
 is-inner-requires : tie.Need-is-inner-requires
 is-inner-requires c κs = search needs
 
--- src/lib.rt:100:27
 shared-slice-read-next-to : tie.Need-shared-slice-read-next-to
 shared-slice-read-next-to c = search needs
 
--- src/lib.rt:100:16
 next-to-requires : tie.Need-next-to-requires
-next-to-requires c κs = ?
+next-to-requires c κs = let i = is-inside (c .before) in (omega (arith, i .row-low), omega (arith, c .before .before .before .before .pre))
 
--- src/lib.rt:100:16
 cast-result : tie.Need-cast-result
-cast-result c = search needs
+cast-result c = omega (arith, c .next-to .ensures .1)
 
--- src/lib.rt:100:9
 returns : tie.Need-returns
-returns c = ?
+returns c = c .next-to .ensures .0 ∙ sym (cond-taken _ _ (c .before .before .before .is-inner .ensures) (c .before .before .if1 .taken))
 
--- src/lib.rt:95:1
 returns-2 : tie.Need-returns-2
-returns-2 c = ?
+returns-2 c = sym (cond-left _ _ (c .before .is-inner .ensures) (c .if1 .left))
 
 pub place-at-spec : {M : Type 1} → statement M
 place-at-spec =

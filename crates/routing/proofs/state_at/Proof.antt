@@ -1,25 +1,37 @@
+-- `routing::state_at` meets its contract: within the buffers the default does not matter.
+-- Assumes nothing.
+use mathlib.Core.Path.{_≡_, sym, ap, _∙_}
+use mathlib.Core.Bool.{Bool}
+use Prim.Native.Nat.{_≤_}
+use lib.Dec.{eqb}
+use lib.ListN.{getD}
+use denote.Ref.{now}
+use native.Mathlib.Omega.{arith}
+use Rattle.array.proofs.Marks.{faulty-read}
+use Rattle.routing.specs.Inner.{state, state-by}
+use Rattle.routing.proofs.Agreement.{state-low}
 use borrow.Author.Needs.{needs}
 use Rattle.routing.proofs.state_at.Statement.{statement}
 use Rattle.routing.proofs.state_at.Tie as tie
-use Rattle.routing.proofs.state_at.Reads as reads
-use Rattle.routing.proofs.state_at.Lts as lts
-use Rattle.routing.proofs.state_of.Reads as state-of-reads
 
--- src/lib.rt:187:20
 shared-slice-read-state-of : tie.Need-shared-slice-read-state-of
 shared-slice-read-state-of c = search needs
 
--- src/lib.rt:187:31
 shared-slice-read-state-of-2 : tie.Need-shared-slice-read-state-of-2
 shared-slice-read-state-of-2 c = search needs
 
--- src/lib.rt:187:5
 state-of-requires : tie.Need-state-of-requires
 state-of-requires c κs = search needs
 
--- src/lib.rt:183:1
 returns : tie.Need-returns
-returns c = ?
+returns c =
+    let s = c .before .before .before .before .before in
+    let a = s .args in
+    let d = getD (now (a .traced)) (a .p) 0 in
+    let low = state-low (a .down) d (eqb (getD (now (a .grid)) (a .p) 0) 1) in (
+      c .state-of .ensures ∙ ap (state (a .down) d) (sym (faulty-read (now (a .grid)) (a .p) (omega (arith, s .pre)))),
+      omega (arith, c .state-of .ensures, low),
+    )
 
 pub state-at-spec : {M : Type 1} → statement M
 state-at-spec =

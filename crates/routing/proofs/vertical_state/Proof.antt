@@ -1,27 +1,23 @@
+-- `routing::vertical_state` meets its contract, arm by arm.
+-- Assumes nothing.
+use borrow.Author.Tests.{ne-eqb}
 use Rattle.routing.proofs.vertical_state.Statement.{statement}
 use Rattle.routing.proofs.vertical_state.Tie as tie
-use Rattle.routing.proofs.vertical_state.Reads as reads
-use Rattle.routing.proofs.vertical_state.Lts as lts
 
--- src/lib.rt:141:1
 returns : tie.Need-returns
-returns c = ?
+returns c = rw (c .before .match .keys1, c .if1 .taken)
 
--- src/lib.rt:141:1
 returns-2 : tie.Need-returns-2
-returns-2 c = ?
+returns-2 c = rw (c .before .match .keys1, c .if1 .left)
 
--- src/lib.rt:141:1
 returns-3 : tie.Need-returns-3
-returns-3 c = ?
+returns-3 c = rw (c .before .match .keys2, c .if2 .taken)
 
--- src/lib.rt:141:1
 returns-4 : tie.Need-returns-4
-returns-4 c = ?
+returns-4 c = rw (c .before .match .keys2, c .if2 .left)
 
--- src/lib.rt:141:1
 returns-5 : tie.Need-returns-5
-returns-5 c = ?
+returns-5 c = simp (ne-eqb _ _ (c .match .rest .1), ne-eqb _ _ (c .match .rest .0 .1))
 
 pub vertical-state-spec : {M : Type 1} → statement M
 vertical-state-spec = tie.close (tie.spec returns returns-2 returns-3 returns-4 returns-5)
