@@ -7,7 +7,6 @@ use Prim.Native.Nat.{ℕ, suc, _+_, _-_, _<_, _≤_}
 use native.Mathlib.Numerals.{add-one}
 use native.Mathlib.Omega.{arith}
 use borrow.Author.Tests.{eq-eqb, ne-eqb}
-use lib.Dec.{eqb}
 use lib.ListN.{length, getD, set, drop, length-set, drop-of-length-le}
 use lib.Seq.{ext-getD, getD-set-same, getD-set-other, drop-cons}
 use Rattle.array.specs.Buffer.{span, buffer, zeros}
@@ -98,22 +97,45 @@ module _ (n m : ℕ) where
       ∙ ap (λ (z : ℕ). cond (member q (path n m p d)) d z) (tabulate-at (through n m fs) 1024 q 0 (omega (arith, e, h)))
       ∙ sym (tabulate-at (through n m f) 1024 q 0 (omega (arith, e, h))))
 
-  -- by index, from the last fault to the first
-  module _ (starts ds : List ℕ) (same : length ds ≡ length starts) where
-    abbrev pub from-fault : ℕ → List ℕ
-    from-fault k = traced (drop k (paired starts ds))
+-- from the last fault to the first: the paths of the faults from the k-th on are painted
+pub record Traced (n m : ℕ) (starts ds : List ℕ) (k : ℕ) (b : List ℕ) : Type 0 where
+  pub same : length ds ≡ length starts
+  pub within : k ≤ length starts
+  pub is : b ≡ traced n m (drop k (paired starts ds))
 
-    pub none-painted : zeros ≡ from-fault (length starts)
-    unfolding through
-    none-painted =
-        let l : length (paired starts ds) ≤ length starts = omega (arith, paired-length starts ds same) in
-        ap traced (sym (drop-of-length-le (paired starts ds) l))
+pub trace-start : (n m : ℕ) (starts ds b : List ℕ) → length ds ≡ length starts → b ≡ zeros → Traced n m starts ds (length starts) b
+unfolding through
+trace-start n m starts ds b h e =
+    let l : length (paired starts ds) ≤ length starts = omega (arith, paired-length starts ds h) in
+    record {
+      same = h;
+      within = omega arith;
+      is = e ∙ ap (traced n m) (sym (drop-of-length-le (paired starts ds) l));
+    }
 
-    pub next-painted : (k : ℕ) → k < length starts
-        → painted (path n m (getD starts k 0) (getD ds k 0)) (getD ds k 0) (from-fault (k + 1)) ≡ from-fault k
-    next-painted k h =
-        let l : k < length (paired starts ds) = omega (arith, paired-length starts ds same) in
-        paint-over (getD starts k 0) (getD ds k 0) (drop (k + 1) (paired starts ds))
-        ∙ ap traced
-        (ap (λ (x : Fault). x ∷ drop (k + 1) (paired starts ds)) (sym (paired-at starts ds k (fault 0 0) same h))
-        ∙ sym (drop-cons (paired starts ds) k (fault 0 0) l ∙ ap (λ (j : ℕ). getD (paired starts ds) k (fault 0 0) ∷ drop j (paired starts ds)) (sym (add-one k))))
+module _ {n m : ℕ} {starts ds : List ℕ} {k : ℕ} {b : List ℕ} (s : Traced n m starts ds k b) where
+  pub trace-long : length b ≡ 1024
+  trace-long = ap length (s .is) ∙ tabulate-length (through n m (drop k (paired starts ds))) 1024
+
+  pub trace-step : 0 < k → (p : ℕ) (new : List ℕ) → p ≡ getD starts (k - 1) 0
+      → new ≡ painted (path n m p (getD ds (k - 1) 0)) (getD ds (k - 1) 0) b → Traced n m starts ds (k - 1) new
+  trace-step h p new e t =
+      let j = k - 1 in
+      let d = getD ds j 0 in
+      let fs = paired starts ds in
+      let l : j < length starts = omega (arith, s .within) in
+      let r : drop j fs ≡ fault p d ∷ drop k fs =
+          drop-cons fs j (fault 0 0) (omega (arith, paired-length starts ds (s .same)))
+          ∙ ap (λ (x : Fault). x ∷ drop (suc j) fs) (paired-at starts ds j (fault 0 0) (s .same) l)
+          ∙ ap (λ (q : ℕ). fault q d ∷ drop (suc j) fs) (sym e)
+          ∙ ap (λ (i : ℕ). fault p d ∷ drop i fs) (omega arith) in
+      record {
+        same = s .same;
+        within = omega arith;
+        is = t ∙ ap (painted (path n m p d) d) (s .is) ∙ paint-over n m p d (drop k fs) ∙ ap (traced n m) (sym r);
+      }
+
+  pub trace-end : k ≤ 0 → b ≡ traced n m (paired starts ds)
+  trace-end h =
+      let e : k ≡ 0 = omega arith in
+      s .is ∙ ap (λ (i : ℕ). traced n m (drop i (paired starts ds))) e

@@ -1,59 +1,62 @@
+-- `routing::paint_paths` meets its contract: each path goes over those of the later faults.
+-- Assumes nothing.
+use mathlib.Core.Path.{_≡_, sym, subst}
+use Prim.Native.Nat.{ℕ, _-_}
+use lib.ListN.{getD}
+use denote.Ref.{now}
+use Rattle.paths.specs.Path.{Start}
+use Rattle.routing.proofs.Painting.{Traced, trace-start, trace-step, trace-long, trace-end}
+use native.Mathlib.Omega.{arith}
+use borrow.Author.Needs.{needs}
 use Rattle.routing.proofs.paint_paths.Statement.{statement}
 use Rattle.routing.proofs.paint_paths.Tie as tie
-use Rattle.routing.proofs.paint_paths.Reads as reads
-use Rattle.routing.proofs.paint_paths.Lts as lts
-use Rattle.plans.proofs.wide.Reads as wide-reads
-use Rattle.routing.proofs.paint_path.Reads as paint-path-reads
 
 abbrev Inv-loop : tie.InvT-loop
-Inv-loop n m starts ds out₀ k₀ out k = ?
+Inv-loop n m starts ds out₀ k₀ out k = Traced n m starts ds k out
 
 abbrev μ-loop : tie.MeasureT-loop
-μ-loop n m starts ds out₀ k₀ out k = ?
+μ-loop n m starts ds out₀ k₀ out k = k
 
--- src/lib.rt:30:5
 loop-holds : tie.Need-loop-holds Inv-loop μ-loop
-loop-holds c = ?
+loop-holds c = let s = c .before .before .before in trace-start _ _ _ _ _ (s .pre .0 .same) (s .pre .1)
 
--- src/lib.rt:31:9
 sub-k : tie.Need-sub-k Inv-loop μ-loop
-sub-k c = ?
+sub-k c = omega arith
 
--- src/lib.rt:32:38
 mul-wide : tie.Need-mul-wide Inv-loop μ-loop
-mul-wide c = ?
+mul-wide c = omega arith
 
--- src/lib.rt:32:38
 shared-slice-read-wide : tie.Need-shared-slice-read-wide Inv-loop μ-loop
-shared-slice-read-wide c = ?
+shared-slice-read-wide c = omega (arith, c .before .before .loop .inv .within)
 
--- src/lib.rt:32:26
 wide-requires : tie.Need-wide-requires Inv-loop μ-loop
-wide-requires c κs = ?
+wide-requires c κs = search needs
 
--- src/lib.rt:32:50
 shared-slice-read-paint-path : tie.Need-shared-slice-read-paint-path Inv-loop μ-loop
-shared-slice-read-paint-path c = ?
+shared-slice-read-paint-path c = omega (arith, c .before .before .before .before .loop .inv .within, c .before .before .before .before .loop .inv .same)
 
--- src/lib.rt:32:9
 paint-path-requires : tie.Need-paint-path-requires Inv-loop μ-loop
-paint-path-requires c κs = ?
+paint-path-requires c κs =
+    let l = c .before .before .before .before .before in
+    let s = l .before .before .before .before in
+    let a = s .args in
+    let j = l .loop .k - 1 in (
+      subst (λ (p : ℕ). Start (a .n) (a .m) p (getD (now (a .ds)) j 0)) (sym (c .before .before .wide .ensures))
+          (s .pre .0 .each j (omega (arith, l .loop .inv .within))),
+      trace-long (l .loop .inv),
+    )
 
--- src/lib.rt:30:5
 loop-less : tie.Need-loop-less Inv-loop μ-loop
-loop-less c = ?
+loop-less c = omega arith
 
--- src/lib.rt:30:5
 loop-again : tie.Need-loop-again Inv-loop μ-loop
-loop-again c = ?
+loop-again c = let l = c .before .before .before .before .before .before .before .before in trace-step (l .loop .inv) (omega arith) _ _ (c .before .before .before .before .before .wide .ensures) (c .before .before .paint-path .ensures)
 
--- src/lib.rt:25:1
 same-length : tie.Need-same-length Inv-loop μ-loop
-same-length c = ?
+same-length c = omega (arith, trace-long (c .before .loop .inv))
 
--- src/lib.rt:25:1
 returns : tie.Need-returns Inv-loop μ-loop
-returns c = ?
+returns c = trace-end (c .before .loop .inv) (omega arith)
 
 pub paint-paths-spec : {M : Type 1} → statement M
 paint-paths-spec =
