@@ -7,7 +7,7 @@ use Prim.Native.Nat.{ℕ, _+_, _<_, _≤_}
 use native.Mathlib.Omega.{arith}
 use borrow.Author.Tests.{ne-eqb, leb-true}
 use lib.Dec.{eqb}
-use lib.ListN.{getD}
+use lib.ListN.{length, getD}
 use lib.Seq.{ext-getD}
 use Rattle.array.specs.Place.{inner, processor-at, row, column}
 use Rattle.array.specs.Buffer.{buffer}
@@ -26,6 +26,24 @@ buffers-agree f g h =
     (λ p l.
     let b : p < 1024 = omega (arith, l, tabulate-length f 1024) in
     tabulate-at f 1024 p 0 b ∙ h p b ∙ sym (tabulate-at g 1024 p 0 b))
+
+-- by the traced paths
+module _ (n m : ℕ) (grid directions : List ℕ) where
+  abbrev direction-through : ℕ → ℕ
+  direction-through p = through n m (directed-faults n m grid directions) p
+
+  pub traced-long : length (traced-paths n m grid directions) ≡ 1024
+  unfolding traced-paths
+  traced-long = tabulate-length direction-through 1024
+
+  traced-at : (p : ℕ) → p < 1024 → getD (traced-paths n m grid directions) p 0 ≡ direction-through p
+  unfolding traced-paths
+  traced-at p h = tabulate-at direction-through 1024 p 0 h
+
+  pub placed-is : buffer (placed-by n m (traced-paths n m grid directions)) ≡ placement n m grid directions
+  unfolding placement
+  placed-is =
+      buffers-agree _ _ (λ p h. ap (λ (d : ℕ). cond (inner n m p) (ahead p d 1) 0) (traced-at p h))
 
 -- the horizontal state is the vertical one with the grid transposed
 pub transposed-state : (d : ℕ) (fault : Bool) → vertical (transposed d) fault ≡ horizontal d fault
@@ -76,29 +94,18 @@ module _ (n m : ℕ) (hn : n ≤ 30) (hm : m ≤ 30) where
       (λ e. rw (h p l, h q (second-within down p e)))
       (λ e. rw e)
 
+  letters-are : (down : Bool) (grid directions : List ℕ)
+      → buffer (letter-by down n m grid (traced-paths n m grid directions)) ≡ buffer (letter-with down grid (direction-through n m grid directions))
+  letters-are down grid directions =
+      buffers-agree _ _
+      (letter-agrees down grid (λ p. getD (traced-paths n m grid directions) p 0) (direction-through n m grid directions)
+      (traced-at n m grid directions))
+
   module _ (grid directions : List ℕ) where
-    abbrev direction-through : ℕ → ℕ
-    direction-through p = through n m (directed-faults n m grid directions) p
-
-    traced-at : (p : ℕ) → p < 1024 → getD (traced-paths n m grid directions) p 0 ≡ direction-through p
-    unfolding traced-paths
-    traced-at p h = tabulate-at direction-through 1024 p 0 h
-
-    pub placed-is : buffer (placed-by n m (traced-paths n m grid directions)) ≡ placement n m grid directions
-    unfolding placement
-    placed-is =
-        buffers-agree _ _ (λ p h. ap (λ (d : ℕ). cond (inner n m p) (ahead p d 1) 0) (traced-at p h))
-
-    letters-are : (down : Bool)
-        → buffer (letter-by down n m grid (traced-paths n m grid directions)) ≡ buffer (letter-with down grid direction-through)
-    letters-are down =
-        buffers-agree _ _
-        (letter-agrees down grid (λ p. getD (traced-paths n m grid directions) p 0) direction-through traced-at)
-
     pub across-is : buffer (letter-by false n m grid (traced-paths n m grid directions)) ≡ across-letters n m grid directions
     unfolding across-letters
-    across-is = letters-are false
+    across-is = letters-are false grid directions
 
     pub down-is : buffer (letter-by true n m grid (traced-paths n m grid directions)) ≡ down-letters n m grid directions
     unfolding down-letters
-    down-is = letters-are true
+    down-is = letters-are true grid directions

@@ -9,7 +9,7 @@ use native.Mathlib.Omega.{arith}
 use borrow.Author.Tests.{eq-eqb, ne-eqb}
 use lib.ListN.{length, getD, set, drop, length-set, drop-of-length-le}
 use lib.Seq.{ext-getD, getD-set-same, getD-set-other, drop-cons}
-use Rattle.array.specs.Buffer.{span, buffer, zeros}
+use Rattle.array.specs.Buffer.{span, buffer, nothing-at, zeros}
 use Rattle.array.proofs.Bools.{by-eq}
 use Rattle.array.proofs.Fills.{tabulate-length, tabulate-at}
 use Rattle.paths.specs.Path.{ahead, path-length, path, member}
@@ -103,6 +103,9 @@ pub record Traced (n m : ℕ) (starts ds : List ℕ) (k : ℕ) (b : List ℕ) : 
   pub within : k ≤ length starts
   pub is : b ≡ traced n m (drop k (paired starts ds))
 
+pub zeros-long : (b : List ℕ) → b ≡ zeros → length b ≡ 1024
+zeros-long b e = ap length e ∙ tabulate-length nothing-at 1024
+
 pub trace-start : (n m : ℕ) (starts ds b : List ℕ) → length ds ≡ length starts → b ≡ zeros → Traced n m starts ds (length starts) b
 unfolding through
 trace-start n m starts ds b h e =
@@ -124,11 +127,12 @@ module _ {n m : ℕ} {starts ds : List ℕ} {k : ℕ} {b : List ℕ} (s : Traced
       let d = getD ds j 0 in
       let fs = paired starts ds in
       let l : j < length starts = omega (arith, s .within) in
+      let i : suc j ≡ k = omega arith in
       let r : drop j fs ≡ fault p d ∷ drop k fs =
           drop-cons fs j (fault 0 0) (omega (arith, paired-length starts ds (s .same)))
           ∙ ap (λ (x : Fault). x ∷ drop (suc j) fs) (paired-at starts ds j (fault 0 0) (s .same) l)
           ∙ ap (λ (q : ℕ). fault q d ∷ drop (suc j) fs) (sym e)
-          ∙ ap (λ (i : ℕ). fault p d ∷ drop i fs) (omega arith) in
+          ∙ ap (λ (z : ℕ). fault p d ∷ drop z fs) i in
       record {
         same = s .same;
         within = omega arith;

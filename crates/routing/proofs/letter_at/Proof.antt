@@ -1,12 +1,11 @@
 -- `routing::letter_at` meets its contract: the letter of the two states, where a switch is.
 -- Assumes nothing.
-use mathlib.Core.Path.{_≡_, sym, ap, _∙_}
-use mathlib.Core.Bool.{true}
+use mathlib.Core.Path.{sym, ap, _∙_}
 use Prim.Native.Nat.{ℕ, _<_}
 use denote.Ref.{now}
 use Rattle.array.proofs.Bools.{cond-taken, cond-left}
 use Rattle.track.specs.Letters.{letter}
-use Rattle.routing.specs.Inner.{switch-exists, second-at, state-by}
+use Rattle.routing.specs.Inner.{second-at, state-by}
 use Rattle.routing.proofs.Agreement.{second-within}
 use borrow.Author.Needs.{needs}
 use native.Mathlib.Omega.{arith}

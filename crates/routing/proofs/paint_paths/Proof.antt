@@ -1,11 +1,11 @@
 -- `routing::paint_paths` meets its contract: each path goes over those of the later faults.
 -- Assumes nothing.
-use mathlib.Core.Path.{_≡_, sym, subst}
+use mathlib.Core.Path.{sym, subst, _∙_}
 use Prim.Native.Nat.{ℕ, _-_}
 use lib.ListN.{getD}
 use denote.Ref.{now}
 use Rattle.paths.specs.Path.{Start}
-use Rattle.routing.proofs.Painting.{Traced, trace-start, trace-step, trace-long, trace-end}
+use Rattle.routing.proofs.Painting.{Traced, trace-start, trace-step, trace-long, trace-end, zeros-long}
 use native.Mathlib.Omega.{arith}
 use borrow.Author.Needs.{needs}
 use Rattle.routing.proofs.paint_paths.Statement.{statement}
@@ -53,7 +53,7 @@ loop-again : tie.Need-loop-again Inv-loop μ-loop
 loop-again c = let l = c .before .before .before .before .before .before .before .before in trace-step (l .loop .inv) (omega arith) _ _ (c .before .before .before .before .before .wide .ensures) (c .before .before .paint-path .ensures)
 
 same-length : tie.Need-same-length Inv-loop μ-loop
-same-length c = omega (arith, trace-long (c .before .loop .inv))
+same-length c = trace-long (c .before .loop .inv) ∙ sym (zeros-long _ (c .before .before .before .before .before .pre .1))
 
 returns : tie.Need-returns Inv-loop μ-loop
 returns c = trace-end (c .before .loop .inv) (omega arith)

@@ -1,9 +1,6 @@
 use borrow.Author.Needs.{needs}
 use Rattle.routing.proofs.place.Statement.{statement}
 use Rattle.routing.proofs.place.Tie as tie
-use Rattle.routing.proofs.place.Reads as reads
-use Rattle.routing.proofs.place.Lts as lts
-use Rattle.routing.proofs.place_within.Reads as place-within-reads
 
 -- src/lib.rt:137:42
 slice-aggregate-place-within : tie.Need-slice-aggregate-place-within

@@ -1,6 +1,6 @@
 -- `routing::place_at` meets its contract: an inner position is off the edge, so the next processor is there.
 -- Assumes nothing.
-use mathlib.Core.Path.{_≡_, sym, _∙_}
+use mathlib.Core.Path.{sym, _∙_}
 use Rattle.array.proofs.Places.{Inner, inner-holds}
 use Rattle.array.proofs.Bools.{cond-taken, cond-left}
 use borrow.Author.Needs.{needs}

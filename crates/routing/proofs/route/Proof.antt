@@ -1,9 +1,6 @@
 use borrow.Author.Needs.{needs}
 use Rattle.routing.proofs.route.Statement.{statement}
 use Rattle.routing.proofs.route.Tie as tie
-use Rattle.routing.proofs.route.Reads as reads
-use Rattle.routing.proofs.route.Lts as lts
-use Rattle.routing.proofs.route_within.Reads as route-within-reads
 
 -- src/lib.rt:268:42
 slice-aggregate-route-within : tie.Need-slice-aggregate-route-within

@@ -1,14 +1,12 @@
 -- `routing::state_at` meets its contract: within the buffers the default does not matter.
 -- Assumes nothing.
-use mathlib.Core.Path.{_≡_, sym, ap, _∙_}
-use mathlib.Core.Bool.{Bool}
-use Prim.Native.Nat.{_≤_}
+use mathlib.Core.Path.{sym, ap, _∙_}
 use lib.Dec.{eqb}
 use lib.ListN.{getD}
 use denote.Ref.{now}
 use native.Mathlib.Omega.{arith}
 use Rattle.array.proofs.Marks.{faulty-read}
-use Rattle.routing.specs.Inner.{state, state-by}
+use Rattle.routing.specs.Inner.{state}
 use Rattle.routing.proofs.Agreement.{state-low}
 use borrow.Author.Needs.{needs}
 use Rattle.routing.proofs.state_at.Statement.{statement}
