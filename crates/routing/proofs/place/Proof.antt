@@ -1,20 +1,21 @@
+-- `routing::place` meets its contract: the array that it lends is all zeros.
+-- Assumes nothing.
+use mathlib.Core.Path.{refl}
+use Rattle.array.specs.Buffer.{span}
 use borrow.Author.Needs.{needs}
 use Rattle.routing.proofs.place.Statement.{statement}
 use Rattle.routing.proofs.place.Tie as tie
 
--- src/lib.rt:137:42
 slice-aggregate-place-within : tie.Need-slice-aggregate-place-within
 slice-aggregate-place-within c = search needs
 
--- src/lib.rt:137:5
 place-within-requires : tie.Need-place-within-requires
-place-within-requires c κs = ?
+unfolding span
+place-within-requires c κs = let s = c .before .before .before .before .before in (s .pre .0, refl, s .pre .1)
 
--- src/lib.rt:132:1
 same-length : tie.Need-same-length
 same-length c = search needs
 
--- src/lib.rt:132:1
 returns : tie.Need-returns
 returns c = search needs
 

@@ -1,24 +1,24 @@
+-- `routing::route` meets its contract: the array that it lends is all zeros.
+-- Assumes nothing.
+use mathlib.Core.Path.{refl}
+use Rattle.array.specs.Buffer.{span}
 use borrow.Author.Needs.{needs}
 use Rattle.routing.proofs.route.Statement.{statement}
 use Rattle.routing.proofs.route.Tie as tie
 
--- src/lib.rt:268:42
 slice-aggregate-route-within : tie.Need-slice-aggregate-route-within
 slice-aggregate-route-within c = search needs
 
--- src/lib.rt:268:5
 route-within-requires : tie.Need-route-within-requires
-route-within-requires c κs = ?
+unfolding span
+route-within-requires c κs = let s = c .before .before .before .before .before .before .before in (s .pre .0, refl, s .pre .1, s .pre .2)
 
--- src/lib.rt:256:1
 same-length : tie.Need-same-length
 same-length c = search needs
 
--- src/lib.rt:256:1
 same-length-2 : tie.Need-same-length-2
 same-length-2 c = search needs
 
--- src/lib.rt:256:1
 returns : tie.Need-returns
 returns c = search needs
 
