@@ -69,7 +69,7 @@ module _ {n m p d k : ℕ} {old new : List ℕ} (s : Painting n m p d k old new)
         left =
             let a : path-length n m p d - k ≡ suc (path-length n m p d - (k + 1)) = omega arith in
             let t : painted (span (ahead p d) k (path-length n m p d - k)) d new
-                ≡ painted (span (ahead p d) (k + 1) (path-length n m p d - (k + 1))) d (set new (ahead p d k) d) = rw (a, add-one k) in
+            ≡ painted (span (ahead p d) (k + 1) (path-length n m p d - (k + 1))) d (set new (ahead p d k) d) = rw (a, add-one k) in
             ap (λ (z : ℕ). painted (span (ahead p d) (k + 1) (path-length n m p d - (k + 1))) d (set new z d)) e ∙ sym t ∙ s .left;
       }
 
@@ -90,7 +90,7 @@ module _ (n m : ℕ) where
   paint-over p d fs =
       let f = fault p d ∷ fs in
       let e : length (painted (path n m p d) d (traced fs)) ≡ 1024 =
-          painted-length (path n m p d) d (traced fs) ∙ tabulate-length (through n m fs) 1024 in
+      painted-length (path n m p d) d (traced fs) ∙ tabulate-length (through n m fs) 1024 in
       ext-getD 0 (painted (path n m p d) d (traced fs)) (traced f) (e ∙ sym (tabulate-length (through n m f) 1024))
       (λ q h.
       painted-at (path n m p d) d (traced fs) q (omega (arith, e, h, tabulate-length (through n m fs) 1024))
@@ -129,10 +129,10 @@ module _ {n m : ℕ} {starts ds : List ℕ} {k : ℕ} {b : List ℕ} (s : Traced
       let l : j < length starts = omega (arith, s .within) in
       let i : suc j ≡ k = omega arith in
       let r : drop j fs ≡ fault p d ∷ drop k fs =
-          drop-cons fs j (fault 0 0) (omega (arith, paired-length starts ds (s .same)))
-          ∙ ap (λ (x : Fault). x ∷ drop (suc j) fs) (paired-at starts ds j (fault 0 0) (s .same) l)
-          ∙ ap (λ (q : ℕ). fault q d ∷ drop (suc j) fs) (sym e)
-          ∙ ap (λ (z : ℕ). fault p d ∷ drop z fs) i in
+      drop-cons fs j (fault 0 0) (omega (arith, paired-length starts ds (s .same)))
+      ∙ ap (λ (x : Fault). x ∷ drop (suc j) fs) (paired-at starts ds j (fault 0 0) (s .same) l)
+      ∙ ap (λ (q : ℕ). fault q d ∷ drop (suc j) fs) (sym e)
+      ∙ ap (λ (z : ℕ). fault p d ∷ drop z fs) i in
       record {
         same = s .same;
         within = omega arith;

@@ -64,7 +64,15 @@ fn trace_within(
     ensures { λ _. ⌜ now (out .exit) ≡ traced-paths n m (now (grid .entry)) (now (directions .entry)) ⌝ }
 {
     let count = plans::list_faults(n, m, grid, starts);
-    trace_listed(n, m, grid, directions, &starts[..count], &mut room[..count], out);
+    trace_listed(
+        n,
+        m,
+        grid,
+        directions,
+        &starts[..count],
+        &mut room[..count],
+        out,
+    );
 }
 
 // Inner part: writes the direction of the path through each position.
@@ -253,14 +261,7 @@ fn route_within(
 }
 
 // Inner part: the switches of a plan.
-pub fn route(
-    n: usize,
-    m: usize,
-    grid: &[u8],
-    directions: &[u8],
-    across: &mut [u8],
-    down: &mut [u8],
-)
+pub fn route(n: usize, m: usize, grid: &[u8], directions: &[u8], across: &mut [u8], down: &mut [u8])
     requires { ⌜ Directed n m (now grid) (now directions) × (length (now across) ≡ 1024) × (length (now down) ≡ 1024) ⌝ }
     ensures { λ _. ⌜ (now (across .exit) ≡ across-letters n m (now (grid .entry)) (now (directions .entry))) × (now (down .exit) ≡ down-letters n m (now (grid .entry)) (now (directions .entry))) ⌝ }
 {

@@ -32,9 +32,9 @@ returns-4 c = (rw (c .match .keys4), omega (arith, c .before .pre))
 
 returns-5 : tie.Need-returns-5
 returns-5 c = (
-      simp (ne-eqb _ _ (c .match .rest .1), ne-eqb _ _ (c .match .rest .0 .1), ne-eqb _ _ (c .match .rest .0 .0 .1), ne-eqb _ _ (c .match .rest .0 .0 .0 .1)),
-      omega (arith, c .before .pre),
-    )
+  simp (ne-eqb _ _ (c .match .rest .1), ne-eqb _ _ (c .match .rest .0 .1), ne-eqb _ _ (c .match .rest .0 .0 .1), ne-eqb _ _ (c .match .rest .0 .0 .0 .1)),
+  omega (arith, c .before .pre),
+)
 
 pub next-to-spec : {M : Type 1} → statement M
 next-to-spec =
