@@ -1,6 +1,6 @@
 -- A painted path: what a painted buffer holds, and that painting the path of a fault over those of later faults adds the fault.
 -- Assumes nothing.
-use mathlib.Core.Path.{_≡_, refl, sym, ap, _∙_}
+use mathlib.Core.Path.{_≡_, refl, sym, ap, subst, _∙_}
 use mathlib.Core.Bool.{Bool, true, false, cond, _||_}
 use mathlib.Core.List.{List, [], _∷_}
 use Prim.Native.Nat.{ℕ, suc, _+_, _-_, _<_, _≤_}
@@ -12,8 +12,9 @@ use lib.Seq.{ext-getD, getD-set-same, getD-set-other, drop-cons}
 use Rattle.array.specs.Buffer.{span, buffer, nothing-at, zeros}
 use Rattle.array.proofs.Bools.{by-eq}
 use Rattle.array.proofs.Fills.{tabulate-length, tabulate-at}
-use Rattle.paths.specs.Path.{ahead, path-length, path, member}
+use Rattle.paths.specs.Path.{ahead, path-length, path, member, Start}
 use Rattle.plans.specs.Faults.{fault, paired}
+use Rattle.plans.specs.Inner.{Starts}
 use Rattle.plans.specs.declared.Fault.{Fault}
 use Rattle.plans.proofs.Pairing.{paired-length, paired-at}
 use Rattle.track.specs.Placement.{through}
@@ -102,6 +103,11 @@ pub record Traced (n m : ℕ) (starts ds : List ℕ) (i : ℕ) (b : List ℕ) : 
   pub same : length ds ≡ length starts
   pub within : i ≤ length starts
   pub is : b ≡ traced n m (drop (length starts - i) (paired starts ds))
+
+-- fault k as the code reads it
+pub start-here : {n m : ℕ} {starts ds : List ℕ} → Starts n m starts ds → (k p : ℕ) → k < length starts → p ≡ getD starts k 0
+    → Start n m p (getD ds k 0)
+start-here {n} {m} {starts} {ds} s k p h e = subst (λ (q : ℕ). Start n m q (getD ds k 0)) (sym e) (s .each k h)
 
 pub zeros-long : (b : List ℕ) → b ≡ zeros → length b ≡ 1024
 zeros-long b e = ap length e ∙ tabulate-length nothing-at 1024

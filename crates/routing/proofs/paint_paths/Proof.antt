@@ -1,11 +1,9 @@
 -- `routing::paint_paths` meets its contract: each path goes over those of the later faults.
 -- Assumes nothing.
-use mathlib.Core.Path.{sym, subst, _∙_}
-use Prim.Native.Nat.{ℕ, _-_}
-use lib.ListN.{length, getD}
-use denote.Ref.{now}
-use Rattle.paths.specs.Path.{Start}
-use Rattle.routing.proofs.Painting.{Traced, trace-start, trace-step, trace-long, trace-end, zeros-long}
+use mathlib.Core.Path.{sym, _∙_}
+use Prim.Native.Nat.{_-_}
+use lib.ListN.{length}
+use Rattle.routing.proofs.Painting.{Traced, start-here, trace-start, trace-step, trace-long, trace-end, zeros-long}
 use native.Mathlib.Omega.{arith}
 use borrow.Author.Needs.{needs}
 use Rattle.routing.proofs.paint_paths.Statement.{statement}
@@ -42,11 +40,7 @@ paint-path-requires : tie.Need-paint-path-requires Inv-loop μ-loop
 paint-path-requires c κs =
     let l = c .before .before .before .before .before in
     let s = l .before .before .before .before in
-    let a = s .args in
-    let k = length (now (a .starts)) - 1 - l .loop .i in (
-      subst (λ (p : ℕ). Start (a .n) (a .m) p (getD (now (a .ds)) k 0)) (sym (c .before .before .wide .ensures)) (s .pre .0 .each k (omega arith)),
-      trace-long (l .loop .inv),
-    )
+    (start-here (s .pre .0) _ _ (omega arith) (c .before .before .wide .ensures), trace-long (l .loop .inv))
 
 add-i : tie.Need-add-i Inv-loop μ-loop
 add-i c = omega arith
@@ -55,7 +49,9 @@ loop-less : tie.Need-loop-less Inv-loop μ-loop
 loop-less c = omega arith
 
 loop-again : tie.Need-loop-again Inv-loop μ-loop
-loop-again c = trace-step (c .before .before .before .before .before .before .before .before .loop .inv) _ _ _ (omega arith) (c .before .before .before .before .before .wide .ensures) (c .before .before .paint-path .ensures)
+loop-again c =
+    let w = c .before .before .before .before .before in
+    trace-step (w .before .before .before .loop .inv) _ _ _ (omega arith) (w .wide .ensures) (c .before .before .paint-path .ensures)
 
 same-length : tie.Need-same-length Inv-loop μ-loop
 same-length c = trace-long (c .before .loop .inv) ∙ sym (zeros-long _ (c .before .before .before .before .before .pre .1))
