@@ -1,6 +1,6 @@
 -- A painted path: what a painted buffer holds, and that painting the path of a fault over those of later faults adds the fault.
 -- Assumes nothing.
-use mathlib.Core.Path.{_≡_, refl, sym, ap, _∙_}
+use mathlib.Core.Path.{_≡_, refl, sym, ap, subst, _∙_}
 use mathlib.Core.Bool.{Bool, true, false, cond, _||_}
 use mathlib.Core.List.{List, [], _∷_}
 use Prim.Native.Nat.{ℕ, suc, _+_, _-_, _<_, _≤_}
@@ -12,8 +12,9 @@ use lib.Seq.{ext-getD, getD-set-same, getD-set-other, drop-cons}
 use Rattle.array.specs.Buffer.{span, buffer, nothing-at, zeros}
 use Rattle.array.proofs.Bools.{by-eq}
 use Rattle.array.proofs.Fills.{tabulate-length, tabulate-at}
-use Rattle.paths.specs.Path.{ahead, path-length, path, member}
+use Rattle.paths.specs.Path.{ahead, path-length, path, member, Start}
 use Rattle.plans.specs.Faults.{fault, paired}
+use Rattle.plans.specs.Inner.{Starts}
 use Rattle.plans.specs.declared.Fault.{Fault}
 use Rattle.plans.proofs.Pairing.{paired-length, paired-at}
 use Rattle.track.specs.Placement.{through}
@@ -97,49 +98,57 @@ module _ (n m : ℕ) where
       ∙ ap (λ (z : ℕ). cond (member q (path n m p d)) d z) (tabulate-at (through n m fs) 1024 q 0 (omega (arith, e, h)))
       ∙ sym (tabulate-at (through n m f) 1024 q 0 (omega (arith, e, h))))
 
--- from the last fault to the first: the paths of the faults from the k-th on are painted
-pub record Traced (n m : ℕ) (starts ds : List ℕ) (k : ℕ) (b : List ℕ) : Type 0 where
+-- from the last fault to the first: the paths of the last i faults are painted
+pub record Traced (n m : ℕ) (starts ds : List ℕ) (i : ℕ) (b : List ℕ) : Type 0 where
   pub same : length ds ≡ length starts
-  pub within : k ≤ length starts
-  pub is : b ≡ traced n m (drop k (paired starts ds))
+  pub within : i ≤ length starts
+  pub is : b ≡ traced n m (drop (length starts - i) (paired starts ds))
+
+-- fault k as the code reads it
+pub start-here : {n m : ℕ} {starts ds : List ℕ} → Starts n m starts ds → (k p : ℕ) → k < length starts → p ≡ getD starts k 0
+    → Start n m p (getD ds k 0)
+start-here {n} {m} {starts} {ds} s k p h e = subst (λ (q : ℕ). Start n m q (getD ds k 0)) (sym e) (s .each k h)
 
 pub zeros-long : (b : List ℕ) → b ≡ zeros → length b ≡ 1024
 zeros-long b e = ap length e ∙ tabulate-length nothing-at 1024
 
-pub trace-start : (n m : ℕ) (starts ds b : List ℕ) → length ds ≡ length starts → b ≡ zeros → Traced n m starts ds (length starts) b
+pub trace-start : (n m : ℕ) (starts ds b : List ℕ) → length ds ≡ length starts → b ≡ zeros → Traced n m starts ds 0 b
 unfolding through
 trace-start n m starts ds b h e =
-    let l : length (paired starts ds) ≤ length starts = omega (arith, paired-length starts ds h) in
+    let l : length (paired starts ds) ≤ length starts - 0 = omega (arith, paired-length starts ds h) in
     record {
       same = h;
       within = omega arith;
       is = e ∙ ap (traced n m) (sym (drop-of-length-le (paired starts ds) l));
     }
 
-module _ {n m : ℕ} {starts ds : List ℕ} {k : ℕ} {b : List ℕ} (s : Traced n m starts ds k b) where
+module _ {n m : ℕ} {starts ds : List ℕ} {i : ℕ} {b : List ℕ} (s : Traced n m starts ds i b) where
   pub trace-long : length b ≡ 1024
-  trace-long = ap length (s .is) ∙ tabulate-length (through n m (drop k (paired starts ds))) 1024
+  trace-long = ap length (s .is) ∙ tabulate-length (through n m (drop (length starts - i) (paired starts ds))) 1024
 
-  pub trace-step : 0 < k → (p : ℕ) (new : List ℕ) → p ≡ getD starts (k - 1) 0
-      → new ≡ painted (path n m p (getD ds (k - 1) 0)) (getD ds (k - 1) 0) b → Traced n m starts ds (k - 1) new
-  trace-step h p new e t =
-      let j = k - 1 in
-      let d = getD ds j 0 in
+  pub trace-step : (k p : ℕ) (new : List ℕ) → suc k ≡ length starts - i → p ≡ getD starts k 0
+      → new ≡ painted (path n m p (getD ds k 0)) (getD ds k 0) b → Traced n m starts ds (i + 1) new
+  trace-step k p new h e t =
+      let d = getD ds k 0 in
       let fs = paired starts ds in
-      let l : j < length starts = omega (arith, s .within) in
-      let i : suc j ≡ k = omega arith in
-      let r : drop j fs ≡ fault p d ∷ drop k fs =
-      drop-cons fs j (fault 0 0) (omega (arith, paired-length starts ds (s .same)))
-      ∙ ap (λ (x : Fault). x ∷ drop (suc j) fs) (paired-at starts ds j (fault 0 0) (s .same) l)
-      ∙ ap (λ (q : ℕ). fault q d ∷ drop (suc j) fs) (sym e)
-      ∙ ap (λ (z : ℕ). fault p d ∷ drop z fs) i in
+      let j : length starts - (i + 1) ≡ k = omega arith in
+      let l : k < length starts = omega arith in
+      let r : drop k fs ≡ fault p d ∷ drop (length starts - i) fs =
+      drop-cons fs k (fault 0 0) (omega (arith, paired-length starts ds (s .same)))
+      ∙ ap (λ (x : Fault). x ∷ drop (suc k) fs) (paired-at starts ds k (fault 0 0) (s .same) l)
+      ∙ ap (λ (q : ℕ). fault q d ∷ drop (suc k) fs) (sym e)
+      ∙ ap (λ (z : ℕ). fault p d ∷ drop z fs) h in
       record {
         same = s .same;
         within = omega arith;
-        is = t ∙ ap (painted (path n m p d) d) (s .is) ∙ paint-over n m p d (drop k fs) ∙ ap (traced n m) (sym r);
+        is =
+            t
+            ∙ ap (painted (path n m p d) d) (s .is)
+            ∙ paint-over n m p d (drop (length starts - i) fs)
+            ∙ ap (traced n m) (sym (ap (λ (z : ℕ). drop z fs) j ∙ r));
       }
 
-  pub trace-end : k ≤ 0 → b ≡ traced n m (paired starts ds)
+  pub trace-end : length starts ≤ i → b ≡ traced n m (paired starts ds)
   trace-end h =
-      let e : k ≡ 0 = omega arith in
-      s .is ∙ ap (λ (i : ℕ). traced n m (drop i (paired starts ds))) e
+      let e : length starts - i ≡ 0 = omega arith in
+      s .is ∙ ap (λ (z : ℕ). traced n m (drop z (paired starts ds))) e

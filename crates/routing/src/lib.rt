@@ -26,9 +26,9 @@ fn paint_paths(n: usize, m: usize, starts: &[u16], ds: &[u8], out: &mut [u8])
     requires { ⌜ Starts n m (now starts) (now ds) × (now out ≡ zeros) ⌝ }
     ensures { λ _. ⌜ now (out .exit) ≡ buffer (through n m (paired (now (starts .entry)) (now (ds .entry)))) ⌝ }
 {
-    let mut k = starts.len();
-    while 0 < k {
-        k -= 1;
+    let count = starts.len();
+    for i in 0..count {
+        let k = count - 1 - i;
         paint_path(n, m, plans::wide(starts[k]), ds[k], out);
     }
 }

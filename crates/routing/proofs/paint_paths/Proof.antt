@@ -1,21 +1,19 @@
 -- `routing::paint_paths` meets its contract: each path goes over those of the later faults.
 -- Assumes nothing.
-use mathlib.Core.Path.{sym, subst, _∙_}
-use Prim.Native.Nat.{ℕ, _-_}
-use lib.ListN.{getD}
-use denote.Ref.{now}
-use Rattle.paths.specs.Path.{Start}
-use Rattle.routing.proofs.Painting.{Traced, trace-start, trace-step, trace-long, trace-end, zeros-long}
+use mathlib.Core.Path.{sym, _∙_}
+use Prim.Native.Nat.{_-_}
+use lib.ListN.{length}
+use Rattle.routing.proofs.Painting.{Traced, start-here, trace-start, trace-step, trace-long, trace-end, zeros-long}
 use native.Mathlib.Omega.{arith}
 use borrow.Author.Needs.{needs}
 use Rattle.routing.proofs.paint_paths.Statement.{statement}
 use Rattle.routing.proofs.paint_paths.Tie as tie
 
 abbrev Inv-loop : tie.InvT-loop
-Inv-loop n m starts ds out₀ k₀ out k = Traced n m starts ds k out
+Inv-loop n m starts ds out₀ count i₀ out i = Traced n m starts ds i out
 
 abbrev μ-loop : tie.MeasureT-loop
-μ-loop n m starts ds out₀ k₀ out k = k
+μ-loop n m starts ds out₀ count i₀ out i = length starts - i
 
 loop-holds : tie.Need-loop-holds Inv-loop μ-loop
 loop-holds c = let s = c .before .before .before in trace-start _ _ _ _ _ (s .pre .0 .same) (s .pre .1)
@@ -23,34 +21,37 @@ loop-holds c = let s = c .before .before .before in trace-start _ _ _ _ _ (s .pr
 sub-k : tie.Need-sub-k Inv-loop μ-loop
 sub-k c = omega arith
 
+sub-k-2 : tie.Need-sub-k-2 Inv-loop μ-loop
+sub-k-2 c = omega arith
+
 mul-wide : tie.Need-mul-wide Inv-loop μ-loop
 mul-wide c = omega arith
 
 shared-slice-read-wide : tie.Need-shared-slice-read-wide Inv-loop μ-loop
-shared-slice-read-wide c = omega (arith, c .before .before .loop .inv .within)
+shared-slice-read-wide c = omega arith
 
 wide-requires : tie.Need-wide-requires Inv-loop μ-loop
 wide-requires c κs = search needs
 
 shared-slice-read-paint-path : tie.Need-shared-slice-read-paint-path Inv-loop μ-loop
-shared-slice-read-paint-path c = omega (arith, c .before .before .before .before .loop .inv .within, c .before .before .before .before .loop .inv .same)
+shared-slice-read-paint-path c = omega (arith, c .before .before .before .before .loop .inv .same)
 
 paint-path-requires : tie.Need-paint-path-requires Inv-loop μ-loop
 paint-path-requires c κs =
     let l = c .before .before .before .before .before in
     let s = l .before .before .before .before in
-    let a = s .args in
-    let j = l .loop .k - 1 in (
-      subst (λ (p : ℕ). Start (a .n) (a .m) p (getD (now (a .ds)) j 0)) (sym (c .before .before .wide .ensures))
-          (s .pre .0 .each j (omega (arith, l .loop .inv .within))),
-      trace-long (l .loop .inv),
-    )
+    (start-here (s .pre .0) _ _ (omega arith) (c .before .before .wide .ensures), trace-long (l .loop .inv))
+
+add-i : tie.Need-add-i Inv-loop μ-loop
+add-i c = omega arith
 
 loop-less : tie.Need-loop-less Inv-loop μ-loop
 loop-less c = omega arith
 
 loop-again : tie.Need-loop-again Inv-loop μ-loop
-loop-again c = let l = c .before .before .before .before .before .before .before .before in trace-step (l .loop .inv) (omega arith) _ _ (c .before .before .before .before .before .wide .ensures) (c .before .before .paint-path .ensures)
+loop-again c =
+    let w = c .before .before .before .before .before in
+    trace-step (w .before .before .before .loop .inv) _ _ _ (omega arith) (w .wide .ensures) (c .before .before .paint-path .ensures)
 
 same-length : tie.Need-same-length Inv-loop μ-loop
 same-length c = trace-long (c .before .loop .inv) ∙ sym (zeros-long _ (c .before .before .before .before .before .pre .1))
@@ -66,11 +67,13 @@ paint-paths-spec =
     μ-loop
     loop-holds
     sub-k
+    sub-k-2
     mul-wide
     shared-slice-read-wide
     wide-requires
     shared-slice-read-paint-path
     paint-path-requires
+    add-i
     loop-less
     loop-again
     same-length
