@@ -102,7 +102,7 @@ short-cond i j true r h = omega arith
 short-cond i j false r h = omega arith
 
 -- the same of a position in what is left of a buffer from i on
-record Hit-from (t : ℕ → ℕ → Bool) (i : ℕ) (xs : List ℕ) (p : ℕ) : Type 0 where
+pub record Hit-from (t : ℕ → ℕ → Bool) (i : ℕ) (xs : List ℕ) (p : ℕ) : Type 0 where
   pub k : ℕ
   pub is : p ≡ i + k
   pub below : k < length xs
@@ -119,7 +119,7 @@ module _ (t : ℕ → ℕ → Bool) where
   hit-cond i x xs r true e ih (suc k) h = later i x _ xs (ih k (le-of-suc-le-suc h))
   hit-cond i x xs r false e ih k h = later i x _ xs (ih k h)
 
-  hit-along : (i : ℕ) (xs : List ℕ) (k : ℕ) → k < length (positions-along t i xs)
+  pub hit-along : (i : ℕ) (xs : List ℕ) (k : ℕ) → k < length (positions-along t i xs)
       → Hit-from t i xs (getD (positions-along t i xs) k 0)
   unfolding positions-along
   hit-along i [] k h = absurd (not-suc-le-zero h)

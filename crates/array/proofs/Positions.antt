@@ -1,4 +1,4 @@
--- The list of passing positions is complete: every position of the buffer whose element passes stands in it.
+-- The list of passing positions is complete and rises: every position of the buffer whose element passes stands in it, once.
 -- Assumes nothing.
 use mathlib.Core.Path.{_≡_, sym, ap, _∙_}
 use mathlib.Core.Bool.{Bool, true, false, cond, false≢true}
@@ -8,7 +8,7 @@ use native.Mathlib.Omega.{arith}
 use native.Mathlib.Nat.{le-of-suc-le-suc, not-suc-le-zero, add-zero, add-suc, suc-add}
 use lib.ListN.{length, getD}
 use Rattle.array.specs.Buffer.{positions-along, positions-in}
-use Rattle.array.proofs.Filters.{passes-at}
+use Rattle.array.proofs.Filters.{passes-at, hit-along}
 
 -- where a number stands in a list
 pub record Index (l : List ℕ) (p : ℕ) : Type 0 where
@@ -39,3 +39,24 @@ module _ (t : ℕ → ℕ → Bool) where
   position-index b p h e =
       let z : 0 + p ≡ p = omega arith in
       rw z at (along-index 0 b p h (ap (λ (q : ℕ). t q (getD b p 0)) z ∙ e))
+
+  rising-cond : (i : ℕ) (q : Bool) (r : List ℕ)
+      → ((k : ℕ) → k < length r → i < getD r k 0)
+      → ((j k : ℕ) → j < k → k < length r → getD r j 0 < getD r k 0)
+      → (j k : ℕ) → j < k → k < length (cond q (i ∷ r) r) → getD (cond q (i ∷ r) r) j 0 < getD (cond q (i ∷ r) r) k 0
+  rising-cond i true r above up j zero h l = absurd (not-suc-le-zero h)
+  rising-cond i true r above up zero (suc k) h l = above k (le-of-suc-le-suc l)
+  rising-cond i true r above up (suc j) (suc k) h l = up j k (le-of-suc-le-suc h) (le-of-suc-le-suc l)
+  rising-cond i false r above up j k h l = up j k h l
+
+  along-rising : (i : ℕ) (xs : List ℕ) (j k : ℕ) → j < k → k < length (positions-along t i xs)
+      → getD (positions-along t i xs) j 0 < getD (positions-along t i xs) k 0
+  unfolding positions-along
+  along-rising i [] j k h l = absurd (not-suc-le-zero l)
+  along-rising i (x ∷ xs) j k h l =
+      rising-cond i (t i x) (positions-along t (suc i) xs) (λ k m. let y = hit-along t (suc i) xs k m in omega (arith, y .is))
+      (along-rising (suc i) xs) j k h l
+
+  pub positions-rise : (b : List ℕ) (j k : ℕ) → j < k → k < length (positions-in t b)
+      → getD (positions-in t b) j 0 < getD (positions-in t b) k 0
+  positions-rise b j k h l = along-rising 0 b j k h l

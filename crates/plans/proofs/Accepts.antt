@@ -15,11 +15,12 @@ use Rattle.array.specs.declared.Verdict.the-variants.{Accepted}
 use Rattle.array.proofs.Bools.{or-false, by-bool}
 use Rattle.array.proofs.Verdicts.{both-accepted, accept-both, accepted-false, false-accepted, accepted-not}
 use Rattle.array.proofs.Scans.{buffer-scan, scan-each, scan-each-from, scan-all, scan-all-from}
-use Rattle.array.proofs.Formed.{Formed, formed}
+use Rattle.array.proofs.Maps.{map-accepted}
+use Rattle.array.proofs.Formed.{Formed, formed, formed-lent, grid-and}
 use Rattle.array.proofs.Positions.{position-index}
 use Rattle.array.proofs.Marks.{mark-read}
 use Rattle.paths.specs.Path.{is-open, meet, near-miss, pair-test}
-use Rattle.plans.specs.Faults.{faults, directions-at, paired}
+use Rattle.plans.specs.Faults.{faults, directions-at, paired, directed-faults}
 use Rattle.plans.specs.Plan.{Choice, Plan}
 use Rattle.plans.specs.Check.{wrong-direction, direction-test, directions-test, open-test, opens-test, clash-test, pairs-test, paths-test, plan-tests, check-plan, Accepts-plans}
 use Rattle.plans.specs.Inner.{Starts, Sound}
@@ -67,12 +68,10 @@ module _ (n m : ℕ) (grid directions : List ℕ) (accepted-map : well-formed n 
   same = directions-length directions starts
 
   right : (long grid && (long directions && true)) ≡ true
-  right = rw (eq-eqb (length grid) 1024 (map .length-is), eq-eqb (length directions) 1024 wide)
+  right = grid-and n m grid (long directions && true) accepted-map (rw (eq-eqb (length directions) 1024 wide))
 
   formed-right : map-tests n m (long grid && (long directions && true)) grid ≡ Accepted
-  formed-right =
-      let e : (long grid && true) ≡ true = rw (eq-eqb (length grid) 1024 (map .length-is)) in
-      ap (λ (b : Bool). map-tests n m b grid) (right ∙ sym e) ∙ accepted-map
+  formed-right = formed-lent n m grid (long grid && (long directions && true)) accepted-map right
 
   sound : Sound n m grid directions
   sound = record { rows = map .sizes .rows-high; columns = map .sizes .columns-high; grid-long = map .length-is; directions-long = wide }
@@ -173,3 +172,13 @@ module _ (n m : ℕ) (grid directions : List ℕ) (accepted-map : well-formed n 
 pub accepts-plans : Accepts-plans
 accepts-plans n m grid directions map wide =
     (checked n m grid directions map wide, λ h. accepted n m grid directions map wide (h .0) (h .1))
+
+-- a plan passes 1 to 7 in whatever call, wherever all lent buffers have their length
+pub plan-lent : (n m : ℕ) (grid directions : List ℕ) (right : Bool) → check-plan n m grid directions ≡ Accepted → right ≡ true
+    → plan-tests n m right grid directions ≡ Accepted
+unfolding plan-tests
+plan-lent n m grid directions right h e =
+    let a = both-accepted (map-tests n m (long grid && (long directions && true)) grid)
+            (or-else (directions-test n m grid directions) (paths-test n m grid (directed-faults n m grid directions))) h in
+    let l = map-accepted n m (long grid && (long directions && true)) grid (a .0) .lengths in
+    ap (λ (b : Bool). plan-tests n m b grid directions) (e ∙ sym l) ∙ h
