@@ -3,7 +3,9 @@ pub mod Places
 pub mod Verdicts
 pub mod Scans
 pub mod Fills
+pub mod Copies
 pub mod Filters
+pub mod Counts
 pub mod Positions
 pub mod Answers
 pub mod Marks

@@ -24,15 +24,15 @@ faulty grid p = eqb (mark-at grid p) 1
 abbrev pub allowed : ℕ → ℕ → ℕ → ℕ → Bool
 allowed n m p mark = cond (processor n m p) (leb mark 1) (eqb mark 2)
 
--- 1: N or M outside 1 to 30; place 0
+-- 1: a size that is none; no place
 abbrev pub size-test : ℕ → ℕ → Verdict
 size-test n m = refuse-if (not (size n && size m)) 1 0 0
 
--- 2: a buffer isn't 1,024 long; place 0. `right` says that all lent buffers are.
+-- 2: some lent buffer has another length; no place. `right` says that none has.
 abbrev pub length-test : Bool → Verdict
 length-test right = refuse-if (not right) 2 0 0
 
--- 3: a grid mark is not what its position allows; the lowest such position
+-- 3: a mark that is not allowed where it stands; the lowest such position
 abbrev pub mark-test : ℕ → ℕ → ℕ → ℕ → Verdict
 mark-test n m p mark = refuse-if (not (allowed n m p mark)) 3 p 0
 

@@ -1,4 +1,4 @@
--- Document 01, "The array": positions, sizes, inner processors, spares and corners. n rows and m columns of logical cells.
+-- Document 01, "The array": positions, sizes, inner processors, spares and corners. n and m are document 01's N and M.
 -- Assumes nothing.
 use Prim.Native.Nat.{ℕ, _+_, _*_, _/_, _%_}
 use mathlib.Core.Bool.{Bool, not, _&&_, _||_}
@@ -19,7 +19,7 @@ abbrev pub size : ℕ → Bool
 size k = leb 1 k && leb k 30
 
 -- By row and column, which may be any numbers (a file's reach 16,383):
--- rows 1 to N with columns 1 to M are inner
+-- the inner processors, one for each logical cell
 abbrev pub inner-at : ℕ → ℕ → ℕ → ℕ → Bool
 inner-at n m x y = (leb 1 x && leb x n) && (leb 1 y && leb y m)
 

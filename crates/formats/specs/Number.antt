@@ -1,7 +1,7 @@
--- Document 01, "Files": a number is one or two groups of seven bits, low group first, with the top bit set on all bytes but the last, in its
--- shortest form; it is at most 16,383. s is the file, `at` the number's offset. Assumes nothing.
+-- Document 01, "Files": the numbers of a file. Below 128 a number is one byte; else two, the first with the low seven bits and its top bit set;
+-- 16,383 is the highest. s is the file, `at` the number's offset. Assumes nothing.
 use Prim.Native.Nat.{ℕ, _+_, _-_, _*_, _/_, _%_}
-use mathlib.Core.Bool.{Bool, cond, _||_}
+use mathlib.Core.Bool.{cond, _||_}
 use mathlib.Core.List.{List, [], _∷_}
 use lib.Dec.{ltb, leb, eqb}
 use lib.ListN.{length, getD}
@@ -19,7 +19,8 @@ told (Refused r) = refuses-as r
 abbrev pub refused : ℕ → ℕ → Number
 refused k p = Refused (refusal k p 0)
 
--- 8: the file ends early; place is its length. 9: the second byte has its top bit set, or the number is not shortest; place is its start.
+-- 8: the bytes run out, and the place is how many there are. 9: at the number's start, where the second byte is not the last of a shortest
+-- form: it is 0, or its top bit is set.
 unfoldable pub number-at : List ℕ → ℕ → Number
 number-at s at =
     cond (leb (length s) at) (refused 8 (length s))

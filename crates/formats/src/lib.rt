@@ -1,7 +1,15 @@
 // Numbers of a file, and the two kinds of file.
 use array::Refusal;
+ghost use mathlib.Core.Path.{_≡_};
+ghost use Prim.Native.Nat.{ℕ, _+_, _<_, _≤_};
+ghost use lib.ListN.{length};
+ghost use lib.Seq.{sets};
+ghost use Rattle.formats.specs.Number.{told, number-at, bytes-of};
+ghost use Rattle.formats.specs.Records.{recorded};
+ghost use Rattle.array.specs.declared.Refusal.{Refusal};
+ghost use Rattle.formats.specs.declared.Number.the-variants.{Refused};
 
-// A number either is read, with the offset after it, or is refused.
+// What reading a number answers: its value with the offset behind it, or the refusal.
 pub enum Number {
     Read(u32, usize),
     Refused(Refusal),
@@ -11,4 +19,92 @@ pub enum Number {
 pub enum Kind {
     Map,
     Plan,
+}
+
+// The byte as a number of 32 bits.
+fn wide(b: u8) -> u32
+    ensures { λ r. ⌜ (r ≡ b) × (r < 256) ⌝ }
+{
+    b as u32
+}
+
+// The number that starts at an offset of a file, with the offset after it, or its refusal.
+pub fn read_number(s: &[u8], at: usize) -> Number
+    ensures { λ r. ⌜ told r ≡ told (number-at (now (s .entry)) at) ⌝ }
+{
+    if s.len() <= at {
+        return Number::Refused(Refusal {
+            number: 8,
+            place: s.len(),
+            second: 0,
+        });
+    }
+    let low = s[at];
+    if low < 128 {
+        return Number::Read(wide(low), at + 1);
+    }
+    if s.len() <= at + 1 {
+        return Number::Refused(Refusal {
+            number: 8,
+            place: s.len(),
+            second: 0,
+        });
+    }
+    let high = s[at + 1];
+    if (128 <= high) | (high == 0) {
+        return Number::Refused(Refusal {
+            number: 9,
+            place: at,
+            second: 0,
+        });
+    }
+    Number::Read(wide(low) - 128 + 128 * wide(high), at + 2)
+}
+
+// Inner part: the refusal of a number that is not read.
+pub fn refusal_of(a: Number) -> Refusal
+    ensures { λ r. ⌜ ((e : Refusal) → a ≡ Refused e → r ≡ e) ⌝ }
+{
+    match a {
+        Number::Read(_, _) => Refusal {
+            number: 0,
+            place: 0,
+            second: 0,
+        },
+        Number::Refused(e) => e,
+    }
+}
+
+// Inner part: writes the bytes of a number at an offset and gives the offset after them.
+pub fn write_number(out: &mut [u8], at: usize, v: usize) -> usize
+    requires { ⌜ (v < 16384) × (at + length (bytes-of v) ≤ length (now out)) ⌝ }
+    ensures { λ r. ⌜ (r ≡ at + length (bytes-of v)) × (now (out .exit) ≡ sets (now (out .entry)) at (bytes-of v)) ⌝ }
+{
+    if v < 128 {
+        out[at] = v as u8;
+        return at + 1;
+    }
+    out[at] = (128 + v % 128) as u8;
+    out[at + 1] = (v / 128) as u8;
+    at + 2
+}
+
+// Inner part: how many bytes a number takes.
+pub fn number_length(v: usize) -> usize
+    ensures { λ r. ⌜ (r ≡ length (bytes-of v)) × (r ≤ 2) ⌝ }
+{
+    if v < 128 {
+        return 1;
+    }
+    2
+}
+
+// Inner part: whether an element of a buffer has a record in the file.
+pub fn is_recorded(kind: Kind, v: u8) -> bool
+    ensures { λ r. ⌜ ((p : ℕ) → r ≡ recorded kind p v) ⌝ }
+{
+    match kind {
+        Kind::Map => v == 1,
+        Kind::Plan => !(v == 0),
+    }
 }

@@ -1,4 +1,4 @@
--- The arithmetic by which the code tests pairs; `meet` and `near-miss` are what a reader believes, and these are proved equal to them.
+-- The arithmetic by which the code tests pairs, proved equal to `meet` and `near-miss`.
 -- Assumes nothing.
 use Prim.Native.Nat.{ℕ, _+_}
 use mathlib.Core.Bool.{Bool, _&&_, _||_}

@@ -12,7 +12,7 @@ use Rattle.array.specs.Map.{faulty}
 use Rattle.array.specs.Tests.{or-else, refuse-if}
 use Rattle.array.specs.declared.Verdict.{Verdict}
 
--- a choice by direction: 1 south, 2 north, 3 east, 4 west, and what stands for any other number
+-- a choice by direction, numbered from 1 in the order of trials, and what stands for any other number
 abbrev pub by-direction : {A : Type 0} → ℕ → A → A → A → A → A → A
 by-direction d south north east west other =
     cond (eqb d 1) south (cond (eqb d 2) north (cond (eqb d 3) east (cond (eqb d 4) west other)))
@@ -25,7 +25,7 @@ ahead p d k = by-direction d (p + 32 * k) (p - 32 * k) (p + k) (p - k) p
 abbrev pub path-length : ℕ → ℕ → ℕ → ℕ → ℕ
 path-length n m p d = by-direction d (n + 2 - row p) (row p + 1) (m + 2 - column p) (column p + 1) 0
 
--- a path: it starts at an inner fault and runs straight to the spare on its side, both included
+-- a path: the positions from its fault straight on to a spare, the fault first and the spare last
 unfoldable pub path : ℕ → ℕ → ℕ → ℕ → List ℕ
 path n m p d = tabulate (ahead p d) (path-length n m p d)
 
@@ -54,11 +54,11 @@ meet n m p d q e = share (path n m p d) (path n m q e)
 abbrev pub difference : ℕ → ℕ → ℕ
 difference a b = (a - b) + (b - a)
 
--- a south path from (x1, y1) and a north path from (x2, y2), where |y1 − y2| = 1 and x1 < x2
+-- south from p, north from q: in neighbouring columns, and p in a higher row
 abbrev pub south-north : ℕ → ℕ → ℕ → ℕ → Bool
 south-north p d q e = (eqb d 1 && eqb e 2) && (eqb (difference (column p) (column q)) 1 && ltb (row p) (row q))
 
--- an east path from (x1, y1) and a west path from (x2, y2), where |x1 − x2| = 1 and y1 < y2
+-- east from p, west from q: in neighbouring rows, and p in a lower column
 abbrev pub east-west : ℕ → ℕ → ℕ → ℕ → Bool
 east-west p d q e = (eqb d 3 && eqb e 4) && (eqb (difference (row p) (row q)) 1 && ltb (column p) (column q))
 

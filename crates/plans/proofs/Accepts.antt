@@ -12,7 +12,7 @@ use Rattle.array.specs.Tests.{or-else}
 use Rattle.array.specs.Buffer.{long}
 use Rattle.array.specs.Map.{map-tests, well-formed, inner-faulty, inner-fault}
 use Rattle.array.specs.declared.Verdict.the-variants.{Accepted}
-use Rattle.array.proofs.Bools.{or-false, by-bool}
+use Rattle.array.proofs.Bools.{and-true, or-false, by-bool}
 use Rattle.array.proofs.Verdicts.{both-accepted, accept-both, accepted-false, false-accepted, accepted-not}
 use Rattle.array.proofs.Scans.{buffer-scan, scan-each, scan-each-from, scan-all, scan-all-from}
 use Rattle.array.proofs.Maps.{map-accepted}
@@ -22,7 +22,7 @@ use Rattle.array.proofs.Marks.{mark-read}
 use Rattle.paths.specs.Path.{is-open, meet, near-miss, pair-test}
 use Rattle.plans.specs.Faults.{faults, directions-at, paired, directed-faults}
 use Rattle.plans.specs.Plan.{Choice, Plan}
-use Rattle.plans.specs.Check.{wrong-direction, direction-test, directions-test, open-test, opens-test, clash-test, pairs-test, paths-test, plan-tests, check-plan, Accepts-plans}
+use Rattle.plans.specs.Check.{wrong-direction, direction-test, directions-test, open-test, opens-test, clash-test, pairs-test, paths-test, plan-tests, check-plan, Holds-plan, Accepts-plans}
 use Rattle.plans.specs.Inner.{Starts, Sound}
 use Rattle.plans.proofs.Pairing.{fault-at, directions-length, direction-at, faults-scan, pairs-scan}
 use Rattle.plans.proofs.Facts.{fault-starts}
@@ -169,16 +169,33 @@ module _ (n m : ℕ) (grid directions : List ℕ) (accepted-map : well-formed n 
       let d = both-accepted (opens-test n m grid (paired starts ds)) (pairs-test n m (paired starts ds)) (b .1) in
       (planned (b .0) (d .0) (d .1), nothing-else (b .0) (d .0) (d .1))
 
+-- an accepted call's map is well-formed, and its direction buffer has its length
+map-of : (n m : ℕ) (grid directions : List ℕ) → check-plan n m grid directions ≡ Accepted
+    → (map-tests n m (long grid && (long directions && true)) grid ≡ Accepted)
+    × ((long grid && (long directions && true)) ≡ true)
+unfolding plan-tests
+map-of n m grid directions h =
+    let a = both-accepted (map-tests n m (long grid && (long directions && true)) grid)
+    (or-else (directions-test n m grid directions) (paths-test n m grid (directed-faults n m grid directions))) h in
+    (a .0, map-accepted n m (long grid && (long directions && true)) grid (a .0) .lengths)
+
+holds-plan : (n m : ℕ) (grid directions : List ℕ) → check-plan n m grid directions ≡ Accepted → Holds-plan n m grid directions
+holds-plan n m grid directions h =
+    let a = map-of n m grid directions h in
+    let b = and-true (long grid) (long directions && true) (a .1) in
+    let d = and-true (long directions) true (b .1) in
+    let e : (long grid && true) ≡ true = rw (b .0) in
+    let f : well-formed n m grid ≡ Accepted = ap (λ (r : Bool). map-tests n m r grid) (e ∙ sym (a .1)) ∙ a .0 in
+    let l = eqb-true (length directions) 1024 (d .0) in
+    let c = checked n m grid directions f l h in
+    record { map = f; length-right = l; plan = c .0; elsewhere = c .1 }
+
 pub accepts-plans : Accepts-plans
-accepts-plans n m grid directions map wide =
-    (checked n m grid directions map wide, λ h. accepted n m grid directions map wide (h .0) (h .1))
+accepts-plans n m grid directions =
+    (holds-plan n m grid directions, λ h. accepted n m grid directions (h .map) (h .length-right) (h .plan) (h .elsewhere))
 
 -- a plan passes 1 to 7 in whatever call, wherever all lent buffers have their length
 pub plan-lent : (n m : ℕ) (grid directions : List ℕ) (right : Bool) → check-plan n m grid directions ≡ Accepted → right ≡ true
     → plan-tests n m right grid directions ≡ Accepted
-unfolding plan-tests
 plan-lent n m grid directions right h e =
-    let a = both-accepted (map-tests n m (long grid && (long directions && true)) grid)
-            (or-else (directions-test n m grid directions) (paths-test n m grid (directed-faults n m grid directions))) h in
-    let l = map-accepted n m (long grid && (long directions && true)) grid (a .0) .lengths in
-    ap (λ (b : Bool). plan-tests n m b grid directions) (e ∙ sym l) ∙ h
+    ap (λ (b : Bool). plan-tests n m b grid directions) (e ∙ sym (map-of n m grid directions h .1)) ∙ h

@@ -17,7 +17,7 @@ use Rattle.plans.specs.Faults.{faults, directions-at, directed-faults}
 use Rattle.plans.specs.Plan.{Plan}
 use Rattle.plans.specs.declared.Fault.{Fault}
 
--- 4: a direction is above 4, missing at an inner fault, or elsewhere than at one
+-- 4: a number that is no direction, none where an inner fault is, or one where none is
 abbrev pub wrong-direction : Bool → ℕ → Bool
 wrong-direction fault d = (ltb 4 d || (fault && eqb d 0)) || (not fault && not (eqb d 0))
 
@@ -62,11 +62,14 @@ plan-test n m lent grid directions = plan-tests n m (all-long lent) grid directi
 abbrev pub check-plan : ℕ → ℕ → List ℕ → List ℕ → Verdict
 check-plan n m grid directions = plan-test n m (grid ∷ directions ∷ []) grid directions
 
--- The statement that the check accepts plans and nothing else: on a well-formed map, a direction buffer passes when its directions at the
--- inner faults are a plan, and 0 stands elsewhere.
+-- a direction buffer holds a plan: on a well-formed map its directions at the inner faults are one, and 0 stands elsewhere
+pub record Holds-plan (n m : ℕ) (grid directions : List ℕ) : Type 0 where
+  pub map : well-formed n m grid ≡ Accepted
+  pub length-right : length directions ≡ 1024
+  pub plan : Plan n m grid (directions-at directions (faults n m grid))
+  pub elsewhere : (p : ℕ) → p < 1024 → inner-fault n m grid p ≡ false → getD directions p 0 ≡ 0
+
+-- the check accepts these and nothing else
 abbrev pub Accepts-plans : Type 0
 Accepts-plans =
-    (n m : ℕ) (grid directions : List ℕ) → well-formed n m grid ≡ Accepted → length directions ≡ 1024
-    → (check-plan n m grid directions ≡ Accepted)
-    ↔ (Plan n m grid (directions-at directions (faults n m grid))
-    × ((p : ℕ) → p < 1024 → inner-fault n m grid p ≡ false → getD directions p 0 ≡ 0))
+    (n m : ℕ) (grid directions : List ℕ) → (check-plan n m grid directions ≡ Accepted) ↔ Holds-plan n m grid directions

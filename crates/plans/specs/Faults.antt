@@ -1,4 +1,4 @@
--- Document 01, "Paths and plans": the inner faults in row order, each with its position and its direction.
+-- Document 01, "Paths and plans": the inner faults with their directions.
 -- Assumes nothing.
 use Prim.Native.Nat.{ℕ}
 use mathlib.Core.List.{List, [], _∷_}
@@ -26,6 +26,6 @@ paired [] ds = []
 paired (p ∷ ps) [] = []
 paired (p ∷ ps) (d ∷ ds) = fault p d ∷ paired ps ds
 
--- what planning and checking work over
+-- the inner faults in row order with the directions of a buffer: what the check, the placement and the routing work over
 abbrev pub directed-faults : ℕ → ℕ → List ℕ → List ℕ → List Fault
 directed-faults n m grid directions = paired (faults n m grid) (directions-at directions (faults n m grid))

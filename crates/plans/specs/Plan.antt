@@ -9,11 +9,11 @@ use lib.ListN.{length, getD}
 use Rattle.paths.specs.Path.{is-open, meet, near-miss}
 use Rattle.plans.specs.Faults.{faults}
 
--- the position of fault k, where xs has a direction for each inner fault
+-- the position of fault k. Below, xs has a direction for each inner fault.
 abbrev pub start-of : ℕ → ℕ → List ℕ → ℕ → ℕ
 start-of n m grid k = getD (faults n m grid) k 0
 
--- a choice of one straight path for each inner fault
+-- a choice: one direction, so one straight path, for each inner fault
 pub record Choice (n m : ℕ) (grid xs : List ℕ) : Type 0 where
   pub one-each : length xs ≡ length (faults n m grid)
   pub straight : (k : ℕ) → k < length xs → (1 ≤ getD xs k 0) × (getD xs k 0 ≤ 4)
@@ -27,7 +27,7 @@ pub record Plan (n m : ℕ) (grid xs : List ℕ) : Type 0 where
   pub no-near-miss : (i j : ℕ) → i < j → j < length xs
       → near-miss (start-of n m grid i) (getD xs i 0) (start-of n m grid j) (getD xs j 0) ≡ false
 
--- a choice that has a path that isn't open, a meeting or a near-miss (demand 3)
+-- what rules a choice out (demand 3): a path that is not open, or two that meet or nearly miss
 pub data Blocked (n m : ℕ) (grid xs : List ℕ) : Type 0 where
   not-open : (k : ℕ) → k < length xs → is-open n m grid (start-of n m grid k) (getD xs k 0) ≡ false → Blocked n m grid xs
   meeting : (i j : ℕ) → i < j → j < length xs
@@ -35,7 +35,7 @@ pub data Blocked (n m : ℕ) (grid xs : List ℕ) : Type 0 where
   near : (i j : ℕ) → i < j → j < length xs
       → near-miss (start-of n m grid i) (getD xs i 0) (start-of n m grid j) (getD xs j 0) ≡ true → Blocked n m grid xs
 
--- every choice of one straight path for each inner fault is such a one
+-- all choices are ruled out
 abbrev pub Every-choice-blocked : ℕ → ℕ → List ℕ → Type 0
 Every-choice-blocked n m grid = (xs : List ℕ) → Choice n m grid xs → Blocked n m grid xs
 
@@ -45,7 +45,7 @@ Not-after [] ys = Unit {0}
 Not-after (x ∷ xs) [] = ⊥
 Not-after (x ∷ xs) (y ∷ ys) = (x < y) ⊎ ((x ≡ y) × Not-after xs ys)
 
--- the first of all plans by directions in fault order
+-- a plan before which there is none
 pub record First-plan (n m : ℕ) (grid xs : List ℕ) : Type 0 where
   pub is-plan : Plan n m grid xs
   pub none-before : (ys : List ℕ) → Plan n m grid ys → Not-after xs ys

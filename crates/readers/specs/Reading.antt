@@ -9,7 +9,6 @@ use Rattle.array.specs.Place.{position, inner-at, processor-at}
 use Rattle.array.specs.Tests.{refusal, Told, accepts, refuses-as}
 use Rattle.array.specs.Buffer.{long}
 use Rattle.array.specs.Map.{faulty}
-use Rattle.array.specs.declared.Refusal.{Refusal}
 use Rattle.formats.specs.Number.{number-at, size-at, read-or}
 use Rattle.formats.specs.Records.{blank}
 use Rattle.formats.specs.declared.Kind.{Kind}
@@ -76,12 +75,12 @@ unfoldable pub records-at : Kind → List ℕ → ℕ → ℕ → ℕ → ℕ �
 records-at kind s n m zero at b = (step.Next at, b)
 records-at kind s n m (suc k) at b = and-then (record-at kind s n m at b) (λ next c. records-at kind s n m k next c)
 
--- 12: bytes follow the last record; place is the first of them. A refusal leaves the lent buffer as it was.
+-- 12: the file goes on after its last record, from the place on. A refusal leaves the lent buffer as it was.
 abbrev pub whole-file : List ℕ → Head → List ℕ → Step × List ℕ → FileRead × List ℕ
 whole-file s head lent (step.Next at, b) = cond (ltb at (length s)) (Refused (refusal 12 at 0), lent) (File head, b)
 whole-file s head lent (step.Refused r, b) = (Refused r, lent)
 
--- what a reader answers, with the lent buffer afterwards: 2, then the file from left to right
+-- what a reader answers, with the lent buffer afterwards: 2 first, then the file in its own order
 unfoldable pub read-file : Kind → List ℕ → List ℕ → FileRead × List ℕ
 read-file kind s lent =
     cond (long lent)

@@ -1,7 +1,17 @@
 // The readers of map and plan files.
 use array::Refusal;
+use formats::Kind;
+use formats::Number;
+ghost use mathlib.Core.Path.{_≡_};
+ghost use Prim.Native.Nat.{_≤_};
+ghost use lib.ListN.{length};
+ghost use Rattle.formats.specs.Number.{size-at};
+ghost use Rattle.formats.specs.Records.{blank};
+ghost use Rattle.readers.specs.Reading.{told, record-at, records-at, whole-file, read-file, read-map, read-plan};
+ghost use Rattle.readers.specs.Parts.{blank-mark, stands-at, value-at, is-value, marked};
+ghost use Rattle.readers.specs.declared.Step.the-variants.{Next};
 
-// A record is read, with the offset after it, or refused.
+// What reading a record gives: the offset after it, or the refusal.
 pub enum Step {
     Next(usize),
     Refused(Refusal),
@@ -14,7 +24,259 @@ pub struct Head {
     pub count: usize,
 }
 
+// What a reader answers.
 pub enum FileRead {
     File(Head),
     Refused(Refusal),
+}
+
+// The inner parts of the readers; some have a `requires`.
+
+// N or M at an offset, with the offset after it, or its refusal.
+fn read_size(s: &[u8], at: usize) -> Number
+    ensures { λ r. ⌜ r ≡ size-at (now (s .entry)) at ⌝ }
+{
+    let a = formats::read_number(s, at);
+    let Number::Read(v, next) = a else {
+        return a;
+    };
+    if array::is_size(v as usize) {
+        return Number::Read(v, next);
+    }
+    Number::Refused(Refusal {
+        number: 1,
+        place: at,
+        second: 0,
+    })
+}
+
+// What a blank buffer holds at a position.
+fn blank_mark(kind: Kind, n: usize, m: usize, p: usize) -> u8
+    requires { ⌜ (n ≤ 30) × (m ≤ 30) ⌝ }
+    ensures { λ r. ⌜ r ≡ blank-mark kind n m p ⌝ }
+{
+    match kind {
+        Kind::Map => {
+            if array::is_processor(n, m, p) {
+                return 0;
+            }
+            2
+        }
+        Kind::Plan => 0,
+    }
+}
+
+// The buffer that a file with no record stands for.
+fn blank_buffer(kind: Kind, n: usize, m: usize) -> [u8; 1024]
+    requires { ⌜ (n ≤ 30) × (m ≤ 30) ⌝ }
+    ensures { λ r. ⌜ r ≡ blank kind n m ⌝ }
+{
+    let mut b = [0u8; 1024];
+    for p in 0..1024 {
+        b[p] = blank_mark(kind, n, m, p);
+    }
+    b
+}
+
+// Whether a record may stand at a row and a column.
+fn may_stand(kind: Kind, n: usize, m: usize, x: usize, y: usize) -> bool
+    requires { ⌜ (n ≤ 30) × (m ≤ 30) ⌝ }
+    ensures { λ r. ⌜ r ≡ stands-at kind n m x y ⌝ }
+{
+    match kind {
+        Kind::Map => array::is_processor_at(n, m, x, y),
+        Kind::Plan => array::is_inner_at(n, m, x, y),
+    }
+}
+
+// What a record writes, with the offset after the record, or its refusal.
+fn read_value(kind: Kind, s: &[u8], at: usize) -> Number
+    ensures { λ r. ⌜ r ≡ value-at kind (now (s .entry)) at ⌝ }
+{
+    match kind {
+        Kind::Map => Number::Read(1, at),
+        Kind::Plan => formats::read_number(s, at),
+    }
+}
+
+// Whether a record may write a value.
+fn may_write(kind: Kind, v: u32) -> bool
+    ensures { λ r. ⌜ r ≡ is-value kind v ⌝ }
+{
+    match kind {
+        Kind::Map => v == 1,
+        Kind::Plan => (1 <= v) & (v <= 4),
+    }
+}
+
+// Judges the record of row x and column y that starts at an offset and ends before `next`, and writes its value v.
+fn mark(
+    kind: Kind,
+    n: usize,
+    m: usize,
+    at: usize,
+    x: usize,
+    y: usize,
+    v: u32,
+    next: usize,
+    b: &mut [u8],
+) -> Step
+    requires { ⌜ (n ≤ 30) × (m ≤ 30) × (length (now b) ≡ 1024) ⌝ }
+    ensures { λ r. ⌜ (r, now (b .exit)) ≡ marked kind n m at x y v next (now (b .entry)) ⌝ }
+{
+    if !may_stand(kind, n, m, x, y) {
+        return Step::Refused(Refusal {
+            number: 10,
+            place: at,
+            second: 0,
+        });
+    }
+    let p = 32 * x + y;
+    if formats::is_recorded(kind, b[p]) {
+        return Step::Refused(Refusal {
+            number: 11,
+            place: at,
+            second: 0,
+        });
+    }
+    if !may_write(kind, v) {
+        return Step::Refused(Refusal {
+            number: 13,
+            place: at,
+            second: 0,
+        });
+    }
+    b[p] = v as u8;
+    Step::Next(next)
+}
+
+// Reads the record at an offset into a buffer.
+fn read_record(kind: Kind, s: &[u8], n: usize, m: usize, at: usize, b: &mut [u8]) -> Step
+    requires { ⌜ (n ≤ 30) × (m ≤ 30) × (length (now b) ≡ 1024) ⌝ }
+    ensures { λ r. ⌜ (r, now (b .exit)) ≡ record-at kind (now (s .entry)) n m at (now (b .entry)) ⌝ }
+{
+    let a = formats::read_number(s, at);
+    let Number::Read(x, second) = a else {
+        return Step::Refused(formats::refusal_of(a));
+    };
+    let d = formats::read_number(s, second);
+    let Number::Read(y, third) = d else {
+        return Step::Refused(formats::refusal_of(d));
+    };
+    let e = read_value(kind, s, third);
+    let Number::Read(v, next) = e else {
+        return Step::Refused(formats::refusal_of(e));
+    };
+    mark(kind, n, m, at, x as usize, y as usize, v, next, b)
+}
+
+// Reads records from an offset on into a buffer.
+fn read_records(
+    kind: Kind,
+    s: &[u8],
+    n: usize,
+    m: usize,
+    count: usize,
+    start: usize,
+    b: &mut [u8],
+) -> Step
+    requires { ⌜ (n ≤ 30) × (m ≤ 30) × (length (now b) ≡ 1024) ⌝ }
+    ensures { λ r. ⌜ (r, now (b .exit)) ≡ records-at kind (now (s .entry)) n m count start (now (b .entry)) ⌝ }
+{
+    let mut left = count;
+    let mut at = start;
+    while 0 < left {
+        let a = read_record(kind, s, n, m, at, b);
+        let Step::Next(next) = a else {
+            return a;
+        };
+        at = next;
+        left -= 1;
+    }
+    Step::Next(at)
+}
+
+// Copies a whole buffer.
+fn copy(to: &mut [u8], from: [u8; 1024])
+    requires { ⌜ length (now to) ≡ 1024 ⌝ }
+    ensures { λ _. ⌜ now (to .exit) ≡ from ⌝ }
+{
+    for p in 0..1024 {
+        to[p] = from[p];
+    }
+}
+
+// Fills the lent buffer where the file ends with its last record.
+fn fill(s: &[u8], head: Head, end: usize, b: [u8; 1024], lent: &mut [u8]) -> FileRead
+    requires { ⌜ length (now lent) ≡ 1024 ⌝ }
+    ensures { λ r. ⌜ (r, now (lent .exit)) ≡ whole-file (now (s .entry)) head (now (lent .entry)) (Next end, b) ⌝ }
+{
+    if end < s.len() {
+        return FileRead::Refused(Refusal {
+            number: 12,
+            place: end,
+            second: 0,
+        });
+    }
+    copy(lent, b);
+    FileRead::File(head)
+}
+
+// Reads what follows the head of a file.
+fn read_body(kind: Kind, s: &[u8], head: Head, start: usize, lent: &mut [u8]) -> FileRead
+    requires { ⌜ (head .rows ≤ 30) × (head .columns ≤ 30) × (length (now lent) ≡ 1024) ⌝ }
+    ensures { λ r. ⌜ (r, now (lent .exit)) ≡ whole-file (now (s .entry)) head (now (lent .entry)) (records-at kind (now (s .entry)) (head .rows) (head .columns) (head .count) start (blank kind (head .rows) (head .columns))) ⌝ }
+{
+    let mut b = blank_buffer(kind, head.rows, head.columns);
+    match read_records(kind, s, head.rows, head.columns, head.count, start, &mut b) {
+        Step::Next(end) => fill(s, head, end, b, lent),
+        Step::Refused(r) => FileRead::Refused(r),
+    }
+}
+
+// Reads a file of either kind.
+fn read_file(kind: Kind, s: &[u8], lent: &mut [u8]) -> FileRead
+    ensures { λ r. ⌜ (r, now (lent .exit)) ≡ read-file kind (now (s .entry)) (now (lent .entry)) ⌝ }
+{
+    if lent.len() != 1024 {
+        return FileRead::Refused(Refusal {
+            number: 2,
+            place: 0,
+            second: 0,
+        });
+    }
+    let a = read_size(s, 0);
+    let Number::Read(n, second) = a else {
+        return FileRead::Refused(formats::refusal_of(a));
+    };
+    let b = read_size(s, second);
+    let Number::Read(m, third) = b else {
+        return FileRead::Refused(formats::refusal_of(b));
+    };
+    let d = formats::read_number(s, third);
+    let Number::Read(count, start) = d else {
+        return FileRead::Refused(formats::refusal_of(d));
+    };
+    let head = Head {
+        rows: n as usize,
+        columns: m as usize,
+        count: count as usize,
+    };
+    read_body(kind, s, head, start, lent)
+}
+
+// The operations.
+
+// Reads a map file into a grid.
+pub fn read_map(s: &[u8], grid: &mut [u8]) -> FileRead
+    ensures { λ r. ⌜ (told r ≡ told (read-map (now (s .entry)) (now (grid .entry)) .0)) × (now (grid .exit) ≡ read-map (now (s .entry)) (now (grid .entry)) .1) ⌝ }
+{
+    read_file(Kind::Map, s, grid)
+}
+
+// Reads a plan file into directions.
+pub fn read_plan(s: &[u8], directions: &mut [u8]) -> FileRead
+    ensures { λ r. ⌜ (told r ≡ told (read-plan (now (s .entry)) (now (directions .entry)) .0)) × (now (directions .exit) ≡ read-plan (now (s .entry)) (now (directions .entry)) .1) ⌝ }
+{
+    read_file(Kind::Plan, s, directions)
 }

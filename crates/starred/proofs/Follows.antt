@@ -1,21 +1,34 @@
--- Links followed, computed: one declaration for each fact.
+-- Letters and links followed, computed: one declaration for each fact.
 -- Assumes nothing.
 use mathlib.Core.Path.{_≡_, refl}
 use mathlib.Core.List.{[], _∷_}
 use lib.ListN.{set}
 use Rattle.array.specs.Buffer.{span, positions-along}
+use Rattle.array.specs.Tests.{refuse, first-along}
 use Rattle.paths.specs.Path.{path, member}
 use Rattle.plans.specs.Faults.{faults, fault, directions-at, paired}
 use Rattle.trials.specs.Search.{direction-of}
-use Rattle.track.specs.Placement.{through}
-use Rattle.track.specs.Letters.{letters, entry, letter, across-letters, down-letters}
+use Rattle.track.specs.Placement.{through, placement}
+use Rattle.track.specs.Letters.{a, b, c, d, letters, entry, letter, across-letters, down-letters}
 use Rattle.track.specs.Ports.{W, E, N, S, Processor, Across, _at_, neighbour, stands, stretch-from, joins-nothing, joined}
 use Rattle.track.specs.Link.{inside, run}
 use Rattle.track.specs.Pieces.{stretch, join, pieces}
-use Rattle.track.specs.Follower.{refused, judged, followed, out-of, seat-of}
+use Rattle.track.specs.Follower.{refused, judged, followed, out-of, seat-of, cell-test, switches-test}
 use Rattle.track.specs.declared.Followed.the-variants.{Entered}
-use Rattle.starred.specs.Grids.{grid-of, directions-of}
-use Rattle.starred.specs.Follows.{wafer, bench, facing, with-across, Followed-examples}
+use Rattle.starred.specs.Grids.{grid-of, directions-of, shown}
+use Rattle.starred.specs.Follows.{wafer, bench, upright, level, all-b, with-across, with-down, Letter-examples, Followed-examples}
+
+level-down : shown (level .down) ≡ c ∷ c ∷ d ∷ a ∷ d ∷ d ∷ c ∷ b ∷ []
+unfolding grid-of directions-of direction-of span member path positions-along faults directions-at paired through letters entry letter across-letters down-letters neighbour stands stretch-from joins-nothing joined inside run judged followed shown placement
+level-down = refl
+
+level-placed : shown (placement 2 2 (level .grid) (level .directions)) ≡ 34 ∷ 35 ∷ 64 ∷ 66 ∷ []
+unfolding grid-of directions-of direction-of span member path positions-along faults directions-at paired through letters entry letter across-letters down-letters neighbour stands stretch-from joins-nothing joined inside run judged followed shown placement
+level-placed = refl
+
+north-beside-south : shown (wafer 2 (33 ∷ 34 ∷ []) (fault 33 2 ∷ fault 34 1 ∷ []) .across) ≡ c ∷ d ∷ a ∷ d ∷ b ∷ c ∷ d ∷ c ∷ []
+unfolding grid-of directions-of direction-of span member path positions-along faults directions-at paired through letters entry letter across-letters down-letters neighbour stands stretch-from joins-nothing joined inside run judged followed shown placement
+north-beside-south = refl
 
 right : followed bench 33 0 ≡ Entered (record { position = 34; port = 0; switches = 2 })
 unfolding grid-of directions-of direction-of span member path positions-along faults directions-at paired through letters entry letter across-letters down-letters neighbour stands stretch-from joins-nothing joined inside run judged followed
@@ -25,7 +38,7 @@ lower : followed bench 33 1 ≡ Entered (record { position = 97; port = 2; switc
 unfolding grid-of directions-of direction-of span member path positions-along faults directions-at paired through letters entry letter across-letters down-letters neighbour stands stretch-from joins-nothing joined inside run judged followed
 lower = refl
 
-three : followed facing 33 0 ≡ Entered (record { position = 2; port = 0; switches = 3 })
+three : followed upright 33 0 ≡ Entered (record { position = 2; port = 0; switches = 3 })
 unfolding grid-of directions-of direction-of span member path positions-along faults directions-at paired through letters entry letter across-letters down-letters neighbour stands stretch-from joins-nothing joined inside run judged followed
 three = refl
 
@@ -36,9 +49,17 @@ right-pieces : pieces (out-of (seat-of bench 33) 0) (run bench 7 (out-of (seat-o
 unfolding grid-of directions-of direction-of span member path positions-along faults directions-at paired through letters entry letter across-letters down-letters neighbour stands stretch-from joins-nothing joined inside run judged followed pieces
 right-pieces = refl
 
-astray : followed (with-across bench (bench .down)) 33 0 ≡ Entered (record { position = 66; port = 0; switches = 1 })
+three-down : followed level 33 1 ≡ Entered (record { position = 64; port = 2; switches = 3 })
 unfolding grid-of directions-of direction-of span member path positions-along faults directions-at paired through letters entry letter across-letters down-letters neighbour stands stretch-from joins-nothing joined inside run judged followed
-astray = refl
+three-down = refl
+
+right-beside : followed level 65 0 ≡ Entered (record { position = 66; port = 0; switches = 2 })
+unfolding grid-of directions-of direction-of span member path positions-along faults directions-at paired through letters entry letter across-letters down-letters neighbour stands stretch-from joins-nothing joined inside run judged followed
+right-beside = refl
+
+wrong-cell : followed (with-across bench all-b) 33 0 ≡ Entered (record { position = 66; port = 0; switches = 1 })
+unfolding grid-of directions-of direction-of span member path positions-along faults directions-at paired through letters entry letter across-letters down-letters neighbour stands stretch-from joins-nothing joined inside run judged followed
+wrong-cell = refl
 
 no-switch : followed (wafer 1 (33 ∷ []) (fault 33 1 ∷ [])) 33 0 ≡ refused 17 65
 unfolding grid-of directions-of direction-of span member path positions-along faults directions-at paired through letters entry letter across-letters down-letters neighbour stands stretch-from joins-nothing joined inside run judged followed
@@ -52,7 +73,7 @@ unjoined-switch : followed (with-across bench (set (bench .across) 65 97)) 33 0 
 unfolding grid-of directions-of direction-of span member path positions-along faults directions-at paired through letters entry letter across-letters down-letters neighbour stands stretch-from joins-nothing joined inside run judged followed
 unjoined-switch = refl
 
-unjoined-fault : followed (with-across (wafer 2 (34 ∷ []) (fault 34 1 ∷ [])) (bench .down)) 33 0 ≡ refused 17 33
+unjoined-fault : followed (with-across (wafer 2 (34 ∷ []) (fault 34 1 ∷ [])) all-b) 33 0 ≡ refused 17 33
 unfolding grid-of directions-of direction-of span member path positions-along faults directions-at paired through letters entry letter across-letters down-letters neighbour stands stretch-from joins-nothing joined inside run judged followed
 unjoined-fault = refl
 
@@ -64,6 +85,30 @@ fourth-switch : followed (with-across bench (set (set (bench .across) 33 97) 65 
 unfolding grid-of directions-of direction-of span member path positions-along faults directions-at paired through letters entry letter across-letters down-letters neighbour stands stretch-from joins-nothing joined inside run judged followed
 fourth-switch = refl
 
+fourth-joined : followed (with-across bench (set (set (set (bench .across) 33 97) 65 97) 1 100)) 65 0 ≡ refused 18 1
+unfolding grid-of directions-of direction-of span member path positions-along faults directions-at paired through letters entry letter across-letters down-letters neighbour stands stretch-from joins-nothing joined inside run judged followed
+fourth-joined = refl
+
+no-side : cell-test bench 33 2 ≡ refuse 15 0 0
+unfolding grid-of directions-of direction-of span member path positions-along faults directions-at paired through letters entry letter across-letters down-letters neighbour stands stretch-from joins-nothing joined inside run judged followed
+no-side = refl
+
+no-cell : cell-test bench 97 0 ≡ refuse 15 0 0
+unfolding grid-of directions-of direction-of span member path positions-along faults directions-at paired through letters entry letter across-letters down-letters neighbour stands stretch-from joins-nothing joined inside run judged followed
+no-cell = refl
+
+no-down-switch : switches-test (with-down bench (set (bench .down) 0 98)) ≡ refuse 16 0 0
+unfolding grid-of directions-of direction-of span member path positions-along faults directions-at paired through letters entry letter across-letters down-letters neighbour stands stretch-from joins-nothing joined inside run judged followed first-along
+no-down-switch = refl
+
+pub letter-examples : Letter-examples
+letter-examples =
+    record {
+      level-down = level-down;
+      level-placed = level-placed;
+      north-beside-south = north-beside-south;
+    }
+
 pub followed-examples : Followed-examples
 followed-examples =
     record {
@@ -71,11 +116,17 @@ followed-examples =
       lower = lower;
       three = three;
       right-pieces = right-pieces;
-      astray = astray;
+      three-down = three-down;
+      right-beside = right-beside;
+      wrong-cell = wrong-cell;
       no-switch = no-switch;
       faulty-spare = faulty-spare;
       unjoined-switch = unjoined-switch;
       unjoined-fault = unjoined-fault;
       missing-switch = missing-switch;
       fourth-switch = fourth-switch;
+      fourth-joined = fourth-joined;
+      no-side = no-side;
+      no-cell = no-cell;
+      no-down-switch = no-down-switch;
     }

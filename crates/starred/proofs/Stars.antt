@@ -11,7 +11,7 @@ use Rattle.trials.specs.Search.{clear, searched, planned, outcome, direction-of
 use Rattle.track.specs.Placement.{through}
 use Rattle.track.specs.Letters.{letters, entry, letter, across-letters}
 use Rattle.starred.specs.Grids.{grid-of, directions-of, shown}
-use Rattle.starred.specs.Stars.{Every, stars}
+use Rattle.starred.specs.Stars.{at-the-limit, Every, stars}
 
 pub starred : Every stars
 unfolding grid-of span member path none-faulty is-open share meet near-miss first-along positions-along map-tests faults paired offer trials clear clear-of keeps searched planned outcome direction-of directions-of directions-written shown directions-at through letters entry letter across-letters
@@ -44,5 +44,15 @@ starred = (
         ),
       ),
     ),
+  ),
+)
+
+pub decided : Every at-the-limit
+unfolding grid-of span member path none-faulty is-open share meet near-miss first-along positions-along map-tests faults paired offer trials clear clear-of keeps searched planned outcome direction-of directions-of directions-written shown directions-at through letters entry letter across-letters
+decided = (
+  record { formed = refl; outcome-is = refl; paths-are = refl; letters-are = tt },
+  (
+    record { formed = refl; outcome-is = refl; paths-are = refl; letters-are = tt },
+    tt,
   ),
 )

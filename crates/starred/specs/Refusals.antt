@@ -9,6 +9,10 @@ use Rattle.array.specs.Map.{well-formed}
 use Rattle.array.specs.declared.Verdict.{Verdict}
 use Rattle.array.specs.declared.Verdict.the-variants.{Accepted}
 use Rattle.plans.specs.Faults.{fault}
+use Rattle.plans.specs.declared.Fault.{Fault}
+use Rattle.formats.specs.Number.{number-at, bytes-of}
+use Rattle.formats.specs.declared.Number.the-variants.{Read}
+use lib.ListN.{set}
 use Rattle.plans.specs.Check.{check-plan}
 use Rattle.readers.specs.Reading.{read-map, read-plan}
 use Rattle.writers.specs.Writing.{write-map, write-plan}
@@ -40,30 +44,59 @@ pub record File-refusals : Type 0 where
   pub spare-start : Plan-refused (2 ∷ 2 ∷ 1 ∷ 0 ∷ 1 ∷ 1 ∷ []) 10 3
   pub path-repeated : Plan-refused (2 ∷ 2 ∷ 2 ∷ 1 ∷ 1 ∷ 1 ∷ 1 ∷ 1 ∷ 5 ∷ []) 11 6
   pub direction-5 : Plan-refused (2 ∷ 2 ∷ 1 ∷ 1 ∷ 1 ∷ 5 ∷ []) 13 3
+  -- direction 0; a buffer that is too short, before the file is looked at
+  pub direction-0 : Plan-refused (2 ∷ 2 ∷ 1 ∷ 1 ∷ 1 ∷ 0 ∷ []) 13 3
+  pub buffer-first : read-map [] [] ≡ (reading.Refused (refusal 2 0 0), [])
+  -- a number of two bytes, read and written; a fault at a spare, read and written
+  pub two-bytes : number-at (130 ∷ 3 ∷ []) 0 ≡ Read 386 2
+  pub two-written : bytes-of 386 ≡ 130 ∷ 3 ∷ []
+  pub spare-read : read-map (2 ∷ 2 ∷ 1 ∷ 0 ∷ 1 ∷ []) zeros
+      ≡ (reading.File (record { rows = 2; columns = 2; count = 1 }), grid-of 2 2 (1 ∷ []))
+  pub spare-written : write-map 2 2 (grid-of 2 2 (1 ∷ [])) (9 ∷ 9 ∷ 9 ∷ 9 ∷ 9 ∷ []) ≡ (writing.Length 5, 2 ∷ 2 ∷ 1 ∷ 0 ∷ 1 ∷ [])
+  -- 4 of a plan to be written, before 14: direction 5; a direction at a spare. 3 of a map, before 14.
+  pub direction-5-written : write-plan 2 2 (directions-of (fault 33 5 ∷ [])) [] ≡ (writing.Refused (refusal 4 33 0), [])
+  pub spare-directed : write-plan 2 2 (directions-of (fault 1 1 ∷ [])) [] ≡ (writing.Refused (refusal 4 1 0), [])
+  pub mark-before-room : write-map 2 2 zeros [] ≡ (writing.Refused (refusal 3 0 0), [])
   -- a plan written, with the bytes after it kept; a file buffer that is one byte too short
   pub plan-written : write-plan 2 2 (directions-of (fault 33 1 ∷ [])) (9 ∷ 9 ∷ 9 ∷ 9 ∷ 9 ∷ 9 ∷ 9 ∷ 9 ∷ [])
       ≡ (writing.Length 6, 2 ∷ 2 ∷ 1 ∷ 1 ∷ 1 ∷ 1 ∷ 9 ∷ 9 ∷ [])
   pub too-short : write-map 2 2 (grid-of 2 2 (33 ∷ [])) (9 ∷ 9 ∷ 9 ∷ 9 ∷ []) ≡ (writing.Refused (refusal 14 5 0), 9 ∷ 9 ∷ 9 ∷ 9 ∷ [])
 
--- faults (1,1) and (2,2) with directions d and e; (1,1) and (2,1) with them
-abbrev pub diagonal : ℕ → ℕ → Verdict
-diagonal d e = check-plan 2 2 (grid-of 2 2 (33 ∷ 66 ∷ [])) (directions-of (fault 33 d ∷ fault 66 e ∷ []))
+-- the check of 2 x 2 and of 3 x 3 with these faults and their directions
+abbrev pub positions-of : List Fault → List ℕ
+positions-of [] = []
+positions-of (f ∷ fs) = f .position ∷ positions-of fs
 
-abbrev pub upright : ℕ → ℕ → Verdict
-upright d e = check-plan 2 2 (grid-of 2 2 (33 ∷ 65 ∷ [])) (directions-of (fault 33 d ∷ fault 65 e ∷ []))
+abbrev pub check-two : List Fault → Verdict
+check-two fs = check-plan 2 2 (grid-of 2 2 (positions-of fs)) (directions-of fs)
+
+abbrev pub check-three : List Fault → Verdict
+check-three fs = check-plan 3 3 (grid-of 3 3 (positions-of fs)) (directions-of fs)
 
 pub record Plan-refusals : Type 0 where
-  -- 30 is accepted, 31 and 0 are not; a buffer of no element; a corner marked healthy
+  -- 30 is accepted, 31 and 0 are not; a size before a length; a buffer of no element; a corner marked healthy; no mark 2 at a processor
   pub size-30 : well-formed 30 30 (grid-of 30 30 []) ≡ Accepted
-  pub rows-31 : well-formed 31 2 zeros ≡ refuse 1 0 0
+  pub rows-31 : well-formed 31 2 [] ≡ refuse 1 0 0
   pub columns-0 : well-formed 2 0 zeros ≡ refuse 1 0 0
   pub short-buffer : well-formed 2 2 [] ≡ refuse 2 0 0
   pub corner-marked : well-formed 2 2 (grid-of 2 3 []) ≡ refuse 3 3 0
-  -- a plan; a near-miss; opposite neighbours that run apart; a meeting at (1, 2); no direction at a fault
-  pub south-east : diagonal 1 3 ≡ Accepted
-  pub south-north : diagonal 1 2 ≡ refuse 7 33 66
-  pub north-south : diagonal 2 1 ≡ Accepted
-  pub east-north : diagonal 3 2 ≡ refuse 6 33 66
-  pub no-direction : diagonal 1 0 ≡ refuse 4 66 0
+  pub inner-unmarked : well-formed 2 2 (set (grid-of 2 2 []) 33 2) ≡ refuse 3 33 0
+  -- 3 before 4, though the wrong direction stands lower
+  pub mark-first : check-plan 2 2 (set (grid-of 2 2 []) 3 1) (directions-of (fault 1 1 ∷ [])) ≡ refuse 3 3 0
+  -- 4: none at a fault; above 4 at one; where no fault is
+  pub no-direction : check-two (fault 33 1 ∷ fault 66 0 ∷ []) ≡ refuse 4 66 0
+  pub direction-above : check-two (fault 33 5 ∷ []) ≡ refuse 4 33 0
+  pub healthy-directed : check-plan 2 2 (grid-of 2 2 []) (directions-of (fault 33 1 ∷ [])) ≡ refuse 4 33 0
+  -- a plan; near-misses down and across, with either path first; opposite neighbours that run apart; a meeting at (1, 2)
+  pub south-east : check-two (fault 33 1 ∷ fault 66 3 ∷ []) ≡ Accepted
+  pub south-north : check-two (fault 33 1 ∷ fault 66 2 ∷ []) ≡ refuse 7 33 66
+  pub east-west : check-two (fault 33 3 ∷ fault 66 4 ∷ []) ≡ refuse 7 33 66
+  pub west-east : check-two (fault 34 4 ∷ fault 65 3 ∷ []) ≡ refuse 7 34 65
+  pub north-south : check-two (fault 33 2 ∷ fault 66 1 ∷ []) ≡ Accepted
+  pub east-above-west : check-two (fault 33 3 ∷ fault 65 4 ∷ []) ≡ Accepted
+  pub east-north : check-two (fault 33 3 ∷ fault 66 2 ∷ []) ≡ refuse 6 33 66
   -- south from (1,1) runs over the fault (2,1), which is 5 although the two paths meet as well
-  pub closed-first : upright 1 1 ≡ refuse 5 33 0
+  pub closed-first : check-two (fault 33 1 ∷ fault 65 1 ∷ []) ≡ refuse 5 33 0
+  -- the first pair, though a later one meets; a pair that is not of neighbours in the list
+  pub near-miss-earlier : check-three (fault 33 1 ∷ fault 66 2 ∷ fault 99 4 ∷ []) ≡ refuse 7 33 66
+  pub far-pair : check-three (fault 33 1 ∷ fault 34 3 ∷ fault 67 2 ∷ fault 98 4 ∷ []) ≡ refuse 6 33 98

@@ -82,3 +82,10 @@ stars =
     ∷ one 3 (p 1 1 ∷ p 2 1 ∷ p 0 1 ∷ p 1 2 ∷ []) (Spent 3) []
     ∷ one 1000000 (p 1 1 ∷ p 2 1 ∷ p 0 1 ∷ p 1 2 ∷ p 1 0 ∷ []) (Beyond 4) []
     ∷ []
+
+-- where T is the limit, the map is decided
+abbrev pub at-the-limit : List Star
+at-the-limit =
+    one 4 (p 1 1 ∷ p 2 1 ∷ p 0 1 ∷ p 1 2 ∷ []) (Repaired 4) (W 1 1 ∷ [])
+    ∷ one 4 (p 1 1 ∷ p 2 1 ∷ p 0 1 ∷ p 1 2 ∷ p 1 0 ∷ []) (Beyond 4) []
+    ∷ []

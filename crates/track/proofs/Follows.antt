@@ -1,5 +1,5 @@
--- The follower's answer is that of the link itself, on any wafer: it enters where the link does and nowhere else, refuses with 17 and 18 where
--- document 01 says, and seven steps are enough.
+-- On any wafer the follower tells of the link, and refuses with 17 and 18 exactly where its track ends or a fourth switch is ahead.
+-- Seven steps are enough.
 -- Assumes nothing.
 use Prim.Native.Nat.{ℕ, zero, suc, _+_, _*_, _≤_}
 use mathlib.Core.Path.{_≡_, refl, sym, ap, subst, _∙_}

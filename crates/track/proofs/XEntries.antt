@@ -1,4 +1,4 @@
--- Of the entries printed x in the table of letters only 2 beside 2 and 3 beside 3 occur in a plan.
+-- Of the states whose entry is x a plan has only 2 with 2 and 3 with 3.
 -- Assumes nothing.
 use mathlib.Core.Path.{_≡_, sym, ap, _∙_}
 use mathlib.Core.Bool.{Bool, true, _&&_, _||_}

@@ -19,7 +19,7 @@ use Rattle.track.specs.declared.Landing.{Landing}
 use Rattle.track.specs.declared.Followed.{Followed}
 use Rattle.track.specs.declared.Followed.the-variants.{Entered, Refused}
 
--- the position entered, the port entered by and the number of switches passed
+-- the three values of a link that arrives, or the refusal
 abbrev pub told : Followed → Told
 told (Entered l) = accepts (l .position ∷ l .port ∷ l .switches ∷ [])
 told (Refused r) = refuses-as r
@@ -53,12 +53,13 @@ seat-of w cell = seat (w .rows) (w .columns) (directed-faults (w .rows) (w .colu
 abbrev pub refused : ℕ → ℕ → Followed
 refused k p = Refused (refusal k p 0)
 
--- 18: a fourth switch would be entered; its position p. k switches are passed.
+-- 18 at p, the switch ahead, where it would be the fourth: k are passed
 abbrev pub unless-fourth : ℕ → ℕ → Followed → Followed
 unless-fourth k p next = cond (eqb k 3) (refused 18 p) next
 
--- 17: the track ends at an unjoined port, a missing switch or a faulty spare; the place c is the last switch entered, or the cell's
--- processor if none was. k switches are passed so far. A run of too few steps has no answer of document 01's: `Enough` says that none occurs.
+-- The answer for a run that has passed k switches, the last of them at c; c is where the cell sits while k is 0. 17, at c, where the run
+-- cannot go on: no switch or stretch ahead, a port that nothing is joined to, or a faulty spare. A run of too few steps has no answer of
+-- document 01's; `Enough` says that none occurs.
 unfoldable pub judged : List ℕ → ℕ → ℕ → Trail → Followed
 judged grid c k (passes i q t) =
     cond (is-switch (i .node)) (unless-fourth k (position-of (i .node)) (judged grid (position-of (i .node)) (suc k) t)) (judged grid c k t)
@@ -70,7 +71,7 @@ judged grid c k (enters i) =
 judged grid c k no-stretch = refused 17 c
 judged grid c k unfinished = refused 0 0
 
--- the link of a cell on a side, as far as the follower looks. Stretches lead from a processor only to switches, so that a fourth switch is
+-- the answer for a cell and a side, from the first seven nodes of its link. Stretches lead from a processor only to switches, so that a fourth switch is
 -- at most the seventh node entered.
 unfoldable pub followed : Wafer → ℕ → ℕ → Followed
 followed w cell side = judged (w .grid) (seat-of w cell) 0 (run w 7 (out-of (seat-of w cell) side))
@@ -95,7 +96,8 @@ pub record Link-of (w : Wafer) (cell side : ℕ) (l : Landing) : Type 0 where
   pub few : switches link ≤ 3
   pub is : l ≡ landing link end
 
--- The follower's answer is that of the link itself, on any wafer: it enters where the link does and nowhere else, and there is one link.
+-- On any wafer the follower tells of the link: it enters where the link does and nowhere else, and there is one link. What it refuses is in
+-- `Refusals`.
 pub record Follower-own : Type 0 where
   pub answered : (w : Wafer) (cell side : ℕ) (l : Landing) → followed w cell side ≡ Entered l → Link-of w cell side l
   pub answers : (w : Wafer) (cell side : ℕ) (l : Landing) → Link-of w cell side l → followed w cell side ≡ Entered l
@@ -106,7 +108,7 @@ pub record Follower-own : Type 0 where
 abbrev pub cell-test : Wafer → ℕ → ℕ → Verdict
 cell-test w cell side = refuse-if (not (inner (w .rows) (w .columns) cell && ltb side 2)) 15 0 0
 
--- 16: a switch byte is not what its position allows, at the lowest position at which either buffer's is not
+-- 16: a byte that is not allowed where it stands, in either switch buffer; the lowest such position
 abbrev pub switch-test : Wafer → ℕ → ℕ → Verdict
 switch-test w p byte =
     refuse-if

@@ -12,12 +12,12 @@ use Rattle.plans.specs.Faults.{directed-faults}
 use Rattle.plans.specs.declared.Fault.{Fault}
 use Rattle.track.specs.Placement.{through}
 
--- the vertical routing state, from the direction of the path through a processor and whether it is faulty: 0 on no vertical path, 1 healthy
--- on a south path, 2 faulty on one, 3 faulty on a north path, 4 healthy on one
+-- The vertical routing state, from the direction of the path through a processor and whether it is faulty: 1 and 2 on a south path, 4 and 3
+-- on a north path, the second of each at its fault; 0 where no vertical path is.
 abbrev pub vertical : ℕ → Bool → ℕ
 vertical d fault = cond (eqb d 1) (cond fault 2 1) (cond (eqb d 2) (cond fault 3 4) 0)
 
--- the horizontal one: the same with the grid transposed, east for south and west for north
+-- the horizontal one: transposing takes east to south and west to north
 abbrev pub horizontal : ℕ → Bool → ℕ
 horizontal d fault = cond (eqb d 3) (cond fault 2 1) (cond (eqb d 4) (cond fault 3 4) 0)
 
@@ -56,11 +56,11 @@ entry west east = getD letters (west * 5 + east) 0
 unfoldable pub letter : ℕ → ℕ → ℕ
 letter west east = cond (eqb (entry west east) x) b (entry west east)
 
--- an across switch lies between the processors (x, y) and (x, y+1), wherever both exist, and is filed under (x, y)
+-- an across switch stands between two processors of a row, and is filed under the left one
 abbrev pub across-exists : ℕ → ℕ → ℕ → ℕ → Bool
 across-exists n m x y = processor-at n m x y && processor-at n m x (y + 1)
 
--- a down switch lies between (x, y) and (x+1, y)
+-- a down switch stands between two of a column, and is filed under the upper one
 abbrev pub down-exists : ℕ → ℕ → ℕ → ℕ → Bool
 down-exists n m x y = processor-at n m x y && processor-at n m (x + 1) y
 

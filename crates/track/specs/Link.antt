@@ -1,5 +1,5 @@
--- Document 01, "Placement and routing": a link leaves a processor by a port and runs until it enters a processor that joins nothing.
--- Links east and south are the same runs. Assumes nothing.
+-- Document 01, "Placement and routing": a link, from the port it leaves by, from stretch to join to stretch, into the first processor that
+-- joins nothing. One definition serves both sides. Assumes nothing.
 use Prim.Native.Nat.{ℕ, zero, suc}
 use mathlib.Core.Path.{_≡_}
 use mathlib.Core.Bool.{Bool, true, false}

@@ -6,8 +6,8 @@ use mathlib.Core.List.{List, [], _∷_}
 use Rattle.track.specs.Ports.{Compass, Node, Port}
 use Rattle.track.specs.Link.{Trail, passes, enters, unjoined-at, no-stretch, unfinished}
 
--- a piece of track: a stretch, known by the two neighbouring ports that it lies between, or a join, known by its switch or fault and the
--- two ports joined
+-- a piece of track: a stretch, known by the two neighbouring ports that it lies between, or a join, known by where it
+-- is and which two ports it joins
 pub data Piece : Type 0 where
   stretch : Port → Port → Piece
   join : Node → Compass → Compass → Piece

@@ -111,7 +111,7 @@ across-joins l = by-letter l N–S W–E W–S·E–N W–N·E–S unjoined
 abbrev pub down-joins : ℕ → Compass → Option Compass
 down-joins l = by-letter l W–E N–S W–S·E–N W–N·E–S unjoined
 
--- an inner fault joins its own N and S on a vertical path, its own W and E on a horizontal one
+-- what an inner fault joins, by the direction of its path: the two ports that lie along it
 abbrev pub fault-joins : ℕ → Compass → Option Compass
 fault-joins d = by-direction d N–S N–S W–E W–E unjoined
 

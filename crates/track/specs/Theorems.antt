@@ -127,7 +127,7 @@ vertical-of w p = vertical-at (w .rows) (w .columns) (w .grid) (directed-faults 
 abbrev pub horizontal-of : Wafer → ℕ → ℕ
 horizontal-of w p = horizontal-at (w .rows) (w .columns) (w .grid) (directed-faults (w .rows) (w .columns) (w .grid) (w .directions)) p
 
--- of the entries printed x only 2 beside 2 and 3 beside 3 occur: at across switches, and at down switches
+-- of the states whose entry is x, a plan has only 2 with 2 and 3 with 3 beside a switch, across or down
 pub record X-entries (w : Wafer) : Type 0 where
   pub at-across : (p : ℕ) → across-exists (w .rows) (w .columns) (row p) (column p) ≡ true
       → printed-x (vertical-of w p) (vertical-of w (p + 1)) ≡ true → Two-or-three (vertical-of w p) (vertical-of w (p + 1))

@@ -4,7 +4,7 @@ ghost use Prim.Native.Nat.{_≤_};
 ghost use Rattle.track.specs.Letters.{letter};
 use array::Refusal;
 
-// Where the follower comes out: the position entered, the port entered by (0 W, 1 E, 2 N, 3 S) and the number of switches passed.
+// Where a link comes out: the position of the processor, its port (W, E, N, S are 0 to 3), and how many switches were passed.
 pub struct Landing {
     pub position: usize,
     pub port: u8,
@@ -19,7 +19,7 @@ pub enum Followed {
 
 // The functions of this crate are inner parts of the operations.
 
-// The letter of a switch, from the routing states of the two processors beside it: west and east, or upper and lower.
+// The letter of a switch between two processors with these routing states: west and east, or upper and lower.
 pub fn switch_letter(west: u8, east: u8) -> u8
     requires { ⌜ (west ≤ 4) × (east ≤ 4) ⌝ }
     ensures { λ r. ⌜ r ≡ letter west east ⌝ }

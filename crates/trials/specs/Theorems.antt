@@ -1,4 +1,4 @@
--- What is proved of the trial rule, for every N, M and grid: the statements.
+-- What is proved of the trial rule, for every N, M and grid: the statements. T itself is what the definition counts; these only bound it.
 -- Assumes nothing.
 use Prim.Native.Nat.{ℕ, _+_, _*_, _^_, _≤_}
 use mathlib.Core.Path.{_≡_}
@@ -10,13 +10,13 @@ use Rattle.trials.specs.Trials.{found, exhausted}
 use Rattle.trials.specs.Search.{planned, T}
 
 pub record Trial-rule : Type 0 where
-  -- what is found is a plan, and the first of all plans by directions in fault order
+  -- what is found is a plan, and no plan comes before it
   pub first-of-plans : (n m k : ℕ) (grid xs : List ℕ) → planned n m grid ≡ found k xs → First-plan n m grid xs
   -- where the trials are exhausted every choice is blocked, with the path or pair that blocks it
   pub none-found : (n m k : ℕ) (grid : List ℕ) → planned n m grid ≡ exhausted k → Every-choice-blocked n m grid
   -- and they are exhausted wherever every choice is blocked
   pub none-there : (n m : ℕ) (grid : List ℕ) → Every-choice-blocked n m grid → planned n m grid ≡ exhausted (T n m grid)
-  -- T is at most (4^(F+1) − 4)/3, said without a division
+  -- the bound on T, said without a division
   pub bound : (n m : ℕ) (grid : List ℕ) → 3 * T n m grid + 4 ≤ 4 ^ (length (faults n m grid) + 1)
   -- F = 0 is repaired with T = 0
   pub no-fault : (n m : ℕ) (grid : List ℕ) → faults n m grid ≡ [] → planned n m grid ≡ found 0 []

@@ -20,8 +20,8 @@ more t (exhausted k) = exhausted (t + k)
 abbrev pub in-order : List ℕ
 in-order = 1 ∷ 2 ∷ 3 ∷ 4 ∷ []
 
--- One fault, which has these directions left. A trial offers it one of them. After a kept trial the next fault is taken, and `go d` is how
--- that ends; when this fault's directions run out, the one before goes on to its next.
+-- One fault, which has these directions left. A trial offers it one of them. `go d` is how the later faults end
+-- once d is kept; when nothing is left to offer, the fault before goes on to its next direction.
 unfoldable pub offer : (ℕ → Bool) → (ℕ → Search) → List ℕ → Search
 offer keeps go [] = exhausted 0
 offer keeps go (d ∷ left) =
@@ -35,7 +35,7 @@ unfoldable pub trials : (List Fault → ℕ → ℕ → Bool) → List Fault →
 trials keeps kept [] = found 0 []
 trials keeps kept (p ∷ ps) = offer (keeps kept p) (λ d. trials keeps (fault p d ∷ kept) ps) in-order
 
--- T: the count of trials made up to the first full plan, or to exhaustion
+-- T, whichever way the trials end
 abbrev pub count : Search → ℕ
 count (found k xs) = k
 count (exhausted k) = k
@@ -45,6 +45,6 @@ unfoldable pub clear-of : (ℕ → ℕ → ℕ → ℕ → Bool) → List Fault 
 clear-of clear [] p d = true
 clear-of clear (f ∷ fs) p d = clear (f .position) (f .direction) p d && clear-of clear fs p d
 
--- a trial is kept when its path is open and clear of every path kept for an earlier fault
+-- what decides whether a trial is kept: openness, and being clear of all that earlier faults kept
 unfoldable pub keeps : (ℕ → ℕ → Bool) → (ℕ → ℕ → ℕ → ℕ → Bool) → List Fault → ℕ → ℕ → Bool
 keeps opens clear kept p d = opens p d && clear-of clear kept p d

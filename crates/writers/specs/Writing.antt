@@ -22,7 +22,7 @@ abbrev pub told : FileWritten → Told
 told (Length k) = accepts (k ∷ [])
 told (Refused r) = refuses-as r
 
--- 4 of a plan without a grid: a direction above 4, or off the inner positions
+-- 4 of a plan, for which there is no grid: a number that is no direction, or one where no fault can be
 abbrev pub path-test : ℕ → ℕ → ℕ → ℕ → Verdict
 path-test n m p d = refuse-if (ltb 4 d || (not (inner n m p) && not (eqb d 0))) 4 p 0
 
@@ -32,7 +32,7 @@ buffer-test Map n m grid = map-test n m (grid ∷ []) grid
 buffer-test Plan n m directions =
     or-else (size-test n m) (or-else (length-test (all-long (directions ∷ []))) (first-in (path-test n m) directions))
 
--- 14: the file buffer is too short; place is the length needed
+-- 14: no room for the file; the place is its length
 abbrev pub room-test : List ℕ → List ℕ → Verdict
 room-test bytes out = refuse-if (ltb (length out) (length bytes)) 14 (length bytes) 0
 

@@ -1,8 +1,202 @@
 // The writers of map and plan files.
 use array::Refusal;
+use array::Verdict;
+use formats::Kind;
+ghost use mathlib.Core.Path.{_≡_};
+ghost use Prim.Native.Nat.{_+_, _<_, _≤_};
+ghost use lib.ListN.{length};
+ghost use lib.Seq.{sets};
+ghost use Rattle.array.specs.Tests.{first-in};
+ghost use Rattle.array.specs.declared.Verdict.the-variants.{Accepted};
+ghost use Rattle.formats.specs.Records.{record-bytes, record-count, file-bytes};
+ghost use Rattle.writers.specs.Writing.{told, path-test, buffer-test, room-test, put, write-file, write-map, write-plan};
+ghost use Rattle.writers.specs.Parts.{pair-bytes, value-bytes, element-bytes, records-of, records-length, Fitting};
+ghost use Rattle.formats.specs.declared.Kind.the-variants.{Plan};
 
-// What a writer returns: the length of the file.
+// What a writer answers: the length of the file, or the refusal.
 pub enum FileWritten {
     Length(usize),
     Refused(Refusal),
+}
+
+// The inner parts of the writers; some have a `requires`.
+
+// Test 4 of a plan without a grid.
+fn check_paths(n: usize, m: usize, directions: &[u8]) -> Verdict
+    requires { ⌜ length (now directions) ≡ 1024 ⌝ }
+    ensures { λ r. ⌜ r ≡ first-in (path-test n m) (now (directions .entry)) ⌝ }
+{
+    for p in 0..1024 {
+        let d = directions[p];
+        if (4 < d) | (!array::is_inner(n, m, p) & !(d == 0)) {
+            return Verdict::Refused(Refusal {
+                number: 4,
+                place: p,
+                second: 0,
+            });
+        }
+    }
+    Verdict::Accepted
+}
+
+// Tests 1, 2 and 4 of a plan without a grid.
+fn check_plan(n: usize, m: usize, directions: &[u8]) -> Verdict
+    ensures { λ r. ⌜ r ≡ buffer-test Plan n m (now (directions .entry)) ⌝ }
+{
+    if !(array::is_size(n) & array::is_size(m)) {
+        return Verdict::Refused(Refusal {
+            number: 1,
+            place: 0,
+            second: 0,
+        });
+    }
+    if directions.len() != 1024 {
+        return Verdict::Refused(Refusal {
+            number: 2,
+            place: 0,
+            second: 0,
+        });
+    }
+    check_paths(n, m, directions)
+}
+
+// Tests 1 to 3 of a map; 1, 2 and 4 of a plan.
+fn check_buffer(kind: Kind, n: usize, m: usize, b: &[u8]) -> Verdict
+    ensures { λ r. ⌜ r ≡ buffer-test kind n m (now (b .entry)) ⌝ }
+{
+    match kind {
+        Kind::Map => array::check_map(n, m, b.len() == 1024, b),
+        Kind::Plan => check_plan(n, m, b),
+    }
+}
+
+// How many records a buffer has.
+fn count_records(kind: Kind, b: &[u8]) -> usize
+    requires { ⌜ length (now b) ≡ 1024 ⌝ }
+    ensures { λ r. ⌜ (r ≡ record-count kind (now (b .entry))) × (r ≤ 1024) ⌝ }
+{
+    let mut count = 0;
+    for p in 0..1024 {
+        if formats::is_recorded(kind, b[p]) {
+            count += 1;
+        }
+    }
+    count
+}
+
+// The length of so many records.
+fn length_of_records(kind: Kind, count: usize) -> usize
+    requires { ⌜ count ≤ 1024 ⌝ }
+    ensures { λ r. ⌜ (r ≡ records-length kind count) × (r ≤ 3072) ⌝ }
+{
+    match kind {
+        Kind::Map => 2 * count,
+        Kind::Plan => 3 * count,
+    }
+}
+
+// Writes two numbers at an offset, one after the other, and gives the offset after them.
+fn write_pair(out: &mut [u8], at: usize, x: usize, y: usize) -> usize
+    requires { ⌜ (x < 16384) × (y < 16384) × (at + length (pair-bytes x y) ≤ length (now out)) ⌝ }
+    ensures { λ r. ⌜ (r ≡ at + length (pair-bytes x y)) × (now (out .exit) ≡ sets (now (out .entry)) at (pair-bytes x y)) ⌝ }
+{
+    let second = formats::write_number(out, at, x);
+    formats::write_number(out, second, y)
+}
+
+// Writes what a record has after its row and column, and gives the offset after it.
+fn write_value(kind: Kind, out: &mut [u8], at: usize, v: u8) -> usize
+    requires { ⌜ at + length (value-bytes kind v) ≤ length (now out) ⌝ }
+    ensures { λ r. ⌜ (r ≡ at + length (value-bytes kind v)) × (now (out .exit) ≡ sets (now (out .entry)) at (value-bytes kind v)) ⌝ }
+{
+    match kind {
+        Kind::Map => at,
+        Kind::Plan => formats::write_number(out, at, v as usize),
+    }
+}
+
+// Writes the record of an element at position p, and gives the offset after it.
+fn write_record(kind: Kind, out: &mut [u8], at: usize, p: usize, v: u8) -> usize
+    requires { ⌜ (p < 1024) × (at + length (record-bytes kind p v) ≤ length (now out)) ⌝ }
+    ensures { λ r. ⌜ (r ≡ at + length (record-bytes kind p v)) × (now (out .exit) ≡ sets (now (out .entry)) at (record-bytes kind p v)) ⌝ }
+{
+    let third = write_pair(out, at, p / 32, p % 32);
+    write_value(kind, out, third, v)
+}
+
+// Writes the record of an element at position p where it has one, and gives the offset after it.
+fn write_element(kind: Kind, out: &mut [u8], at: usize, p: usize, v: u8) -> usize
+    requires { ⌜ (p < 1024) × (at + length (element-bytes kind p v) ≤ length (now out)) ⌝ }
+    ensures { λ r. ⌜ (r ≡ at + length (element-bytes kind p v)) × (now (out .exit) ≡ sets (now (out .entry)) at (element-bytes kind p v)) ⌝ }
+{
+    if formats::is_recorded(kind, v) {
+        return write_record(kind, out, at, p, v);
+    }
+    at
+}
+
+// Writes the records of a buffer in row order, and gives the offset after them.
+fn write_records(kind: Kind, out: &mut [u8], start: usize, b: &[u8]) -> usize
+    requires { ⌜ (length (now b) ≡ 1024) × (start + length (records-of kind (now b)) ≤ length (now out)) ⌝ }
+    ensures { λ r. ⌜ (r ≡ start + length (records-of kind (now (b .entry)))) × (now (out .exit) ≡ sets (now (out .entry)) start (records-of kind (now (b .entry)))) ⌝ }
+{
+    let mut at = start;
+    for p in 0..1024 {
+        at = write_element(kind, out, at, p, b[p]);
+    }
+    at
+}
+
+// Writes a whole file, and gives its length.
+fn write_parts(kind: Kind, out: &mut [u8], n: usize, m: usize, count: usize, b: &[u8]) -> usize
+    requires { ⌜ Fitting kind n m count (now b) (now out) ⌝ }
+    ensures { λ r. ⌜ (r ≡ length (file-bytes kind n m (now (b .entry)))) × (now (out .exit) ≡ sets (now (out .entry)) 0 (file-bytes kind n m (now (b .entry)))) ⌝ }
+{
+    let third = write_pair(out, 0, n, m);
+    let fourth = formats::write_number(out, third, count);
+    write_records(kind, out, fourth, b)
+}
+
+// Writes the file of a buffer that passed its tests, where there is room.
+fn write_checked(kind: Kind, n: usize, m: usize, b: &[u8], out: &mut [u8]) -> FileWritten
+    requires { ⌜ buffer-test kind n m (now b) ≡ Accepted ⌝ }
+    ensures { λ r. ⌜ (r, now (out .exit)) ≡ put (room-test (file-bytes kind n m (now (b .entry))) (now (out .entry))) (file-bytes kind n m (now (b .entry))) (now (out .entry)) ⌝ }
+{
+    let count = count_records(kind, b);
+    let needed = 2 + formats::number_length(count) + length_of_records(kind, count);
+    if out.len() < needed {
+        return FileWritten::Refused(Refusal {
+            number: 14,
+            place: needed,
+            second: 0,
+        });
+    }
+    FileWritten::Length(write_parts(kind, out, n, m, count, b))
+}
+
+// Writes a file of either kind.
+fn write_file(kind: Kind, n: usize, m: usize, b: &[u8], out: &mut [u8]) -> FileWritten
+    ensures { λ r. ⌜ (r, now (out .exit)) ≡ write-file kind n m (now (b .entry)) (now (out .entry)) ⌝ }
+{
+    let v = check_buffer(kind, n, m, b);
+    if let Verdict::Refused(r) = v {
+        return FileWritten::Refused(r);
+    }
+    write_checked(kind, n, m, b, out)
+}
+
+// The operations.
+
+// Writes the map file of a grid.
+pub fn write_map(n: usize, m: usize, grid: &[u8], out: &mut [u8]) -> FileWritten
+    ensures { λ r. ⌜ (told r ≡ told (write-map n m (now (grid .entry)) (now (out .entry)) .0)) × (now (out .exit) ≡ write-map n m (now (grid .entry)) (now (out .entry)) .1) ⌝ }
+{
+    write_file(Kind::Map, n, m, grid, out)
+}
+
+// Writes the plan file of directions.
+pub fn write_plan(n: usize, m: usize, directions: &[u8], out: &mut [u8]) -> FileWritten
+    ensures { λ r. ⌜ (told r ≡ told (write-plan n m (now (directions .entry)) (now (out .entry)) .0)) × (now (out .exit) ≡ write-plan n m (now (directions .entry)) (now (out .entry)) .1) ⌝ }
+{
+    write_file(Kind::Plan, n, m, directions, out)
 }

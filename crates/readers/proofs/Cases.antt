@@ -1,0 +1,199 @@
+-- The definitions of a reader by their cases: one law for each answer.
+-- Assumes nothing.
+use Prim.Native.Nat.{ℕ, suc, _+_, _-_, _<_, _≤_}
+use mathlib.Core.Path.{_≡_, refl, sym, ap, _∙_}
+use mathlib.Core.List.{List}
+use mathlib.Core.Bool.{Bool, true, false, cond, not}
+use native.Mathlib.Omega.{arith}
+use lib.Dec.{leb, eqb}
+use lib.ListN.{length, getD, set}
+use borrow.Author.Tests.{leb-true, eqb-true, lt-ltb, le-ltb, eq-eqb, ne-eqb}
+use Rattle.array.specs.Place.{position, size, processor-at, inner-at}
+use Rattle.array.specs.Buffer.{buffer}
+use Rattle.array.specs.Tests.{refusal}
+use Rattle.array.specs.declared.Refusal.{Refusal}
+use Rattle.array.proofs.Bools.{and-true, by-bool, cond-taken, cond-left}
+use Rattle.array.proofs.Places.{inner-at-holds}
+use Rattle.array.proofs.Fills.{same-default, tabulate-length}
+use Rattle.formats.specs.Number.{number-at, size-at, refused}
+use Rattle.formats.specs.Records.{healthy-grid, blank}
+use Rattle.formats.specs.declared.Number.{Number}
+use Rattle.formats.specs.declared.Number.the-variants.{Read, Refused}
+use Rattle.formats.specs.declared.Kind.{Kind}
+use Rattle.formats.specs.declared.Kind.the-variants.{Map, Plan}
+use Rattle.readers.specs.Reading.{no-record, mark-fault, mark-path, record-at, records-at, whole-file, read-file}
+use Rattle.readers.specs.Parts.{blank-mark, stands-at, value-at, is-value, marked}
+use Rattle.readers.specs.declared.Step.{Step}
+use Rattle.readers.specs.declared.Step.the-variants as step
+use Rattle.readers.specs.declared.Head.{Head}
+use Rattle.readers.specs.declared.FileRead.the-variants as file
+
+module _ (s : List ℕ) (at : ℕ) where
+  pub size-refused : (e : Refusal) → number-at s at ≡ Refused e → size-at s at ≡ Refused e
+  unfolding size-at
+  size-refused e q = rw q
+
+  module _ (v next : ℕ) (q : number-at s at ≡ Read v next) where
+    pub size-good : size v ≡ true → size-at s at ≡ Read v next
+    unfolding size-at
+    size-good t = rw q (cond-taken (Read v next) (refused 1 at) refl t)
+
+    pub size-bad : size v ≡ false → size-at s at ≡ refused 1 at
+    unfolding size-at
+    size-bad t = rw q (cond-left (Read v next) (refused 1 at) refl t)
+
+  -- a size that was read is at most 30
+  pub size-bound : (v next : ℕ) → size-at s at ≡ Read v next → v ≤ 30
+  size-bound v next q = bound (number-at s at) refl
+    where
+      bound : (x : Number) → number-at s at ≡ x → v ≤ 30
+      bound (Refused e) h = absurd (let z : _≡_ {A = ℕ} 0 1 = cc (size-refused e h) in omega arith)
+      bound (Read w k) h =
+          by-bool (size w)
+          (λ t. let l : w ≤ 30 = leb-true w 30 (and-true (leb 1 w) (leb w 30) t .1) in let z : w ≡ v = cc (size-good w k h t) in omega arith)
+          (λ t. absurd (let z : _≡_ {A = ℕ} 0 1 = cc (size-bad w k h t) in omega arith))
+
+-- a blank buffer, by its positions
+pub blank-is : (kind : Kind) (n m : ℕ) → blank kind n m ≡ buffer (blank-mark kind n m)
+unfolding healthy-grid
+blank-is Map n m = refl
+blank-is Plan n m = refl
+
+pub blank-length : (kind : Kind) (n m : ℕ) → length (blank kind n m) ≡ 1024
+blank-length kind n m = ap length (blank-is kind n m) ∙ tabulate-length (blank-mark kind n m) 1024
+
+-- the row and the column of a record that may stand
+pub stands-within : (kind : Kind) (n m x y : ℕ) → stands-at kind n m x y ≡ true → (x ≤ n + 1) × (y ≤ m + 1)
+stands-within Map n m x y t = let a = and-true _ _ (and-true _ _ t .0) in (leb-true _ _ (a .0), leb-true _ _ (a .1))
+stands-within Plan n m x y t = let i = inner-at-holds n m x y t in (omega arith, omega arith)
+
+-- a value that a record may write
+pub value-low : (kind : Kind) (v : ℕ) → is-value kind v ≡ true → v ≤ 4
+value-low Map v t = let e : v ≡ 1 = eqb-true v 1 t in omega arith
+value-low Plan v t = leb-true v 4 (and-true (leb 1 v) (leb v 4) t .1)
+
+swap : {A : Type 0} (t : Bool) (a b : A) → cond t a b ≡ cond (not t) b a
+swap true a b = refl
+swap false a b = refl
+
+module _ (n m : ℕ) (small : (n ≤ 30) × (m ≤ 30)) (at x y next : ℕ) (b : List ℕ) (w : length b ≡ 1024) where
+  fault-marked : mark-fault n m at x y next b ≡ marked Map n m at x y 1 next b
+  fault-marked =
+      by-bool (processor-at n m x y)
+      (λ t.
+      let l = stands-within Map n m x y t in
+      cond-taken _ _ refl t
+      ∙ ap (λ (z : ℕ). cond (eqb z 1) (no-record 11 at b) (step.Next next, set b (position x y) 1))
+      (same-default b (position x y) 2 0 (omega arith))
+      ∙ sym (cond-taken _ _ refl t))
+      (λ t. cond-left _ _ refl t ∙ sym (cond-left _ _ refl t))
+
+  path-marked : (d : ℕ) → mark-path n m at x y d next b ≡ marked Plan n m at x y d next b
+  path-marked d = ap (λ (z : Step × List ℕ). cond (inner-at n m x y) z (no-record 10 at b)) (swap (eqb (getD b (position x y) 0) 0) _ _)
+
+module _ (s : List ℕ) (n m at : ℕ) (b : List ℕ) where
+  pub no-row : (kind : Kind) (e : Refusal) → number-at s at ≡ Refused e → record-at kind s n m at b ≡ (step.Refused e, b)
+  unfolding record-at
+  no-row Map e q = rw q
+  no-row Plan e q = rw q
+
+  module _ (x a : ℕ) (q : number-at s at ≡ Read x a) where
+    pub no-column : (kind : Kind) (e : Refusal) → number-at s a ≡ Refused e → record-at kind s n m at b ≡ (step.Refused e, b)
+    unfolding record-at
+    no-column Map e r = rw (q, r)
+    no-column Plan e r = rw (q, r)
+
+    module _ (y c : ℕ) (r : number-at s a ≡ Read y c) where
+      pub no-value : (kind : Kind) (e : Refusal) → value-at kind s c ≡ Refused e → record-at kind s n m at b ≡ (step.Refused e, b)
+      unfolding record-at
+      no-value Map e t = absurd (let z : _≡_ {A = ℕ} 0 1 = cc in omega arith)
+      no-value Plan e t = rw (q, r, t)
+
+      pub record-marked :
+          (small : (n ≤ 30) × (m ≤ 30)) →
+          length b ≡ 1024 →
+          (kind : Kind) (v next : ℕ) →
+          value-at kind s c ≡ Read v next →
+          record-at kind s n m at b ≡ marked kind n m at x y v next b
+      unfolding record-at
+      record-marked small w Map v next t =
+          let e : 1 ≡ v = cc in
+          let f : c ≡ next = cc in
+          rw (q, r)
+          (fault-marked n m small at x y c b w
+          ∙ ap (λ (z : ℕ). marked Map n m at x y z c b) e
+          ∙ ap (λ (z : ℕ). marked Map n m at x y v z b) f)
+      record-marked small w Plan v next t = rw (q, r, t) (path-marked n m small at x y next b w v)
+
+module _ (kind : Kind) (s : List ℕ) (n m k at : ℕ) (b : List ℕ) where
+  pub more-suc :
+      (next : ℕ) (c : List ℕ) →
+      record-at kind s n m at b ≡ (step.Next next, c) →
+      records-at kind s n m (suc k) at b ≡ records-at kind s n m k next c
+  unfolding records-at
+  more-suc next c q = rw q
+
+  stop-suc :
+      (e : Refusal) (c : List ℕ) →
+      record-at kind s n m at b ≡ (step.Refused e, c) →
+      records-at kind s n m (suc k) at b ≡ (step.Refused e, c)
+  unfolding records-at
+  stop-suc e c q = rw q
+
+module _ (kind : Kind) (s : List ℕ) (n m k at : ℕ) (b : List ℕ) (l : 0 < k) where
+  some : k ≡ suc (k - 1)
+  some = omega arith
+
+  pub more :
+      (next : ℕ) (c : List ℕ) →
+      record-at kind s n m at b ≡ (step.Next next, c) →
+      records-at kind s n m k at b ≡ records-at kind s n m (k - 1) next c
+  more next c q = ap (λ (j : ℕ). records-at kind s n m j at b) some ∙ more-suc kind s n m (k - 1) at b next c q
+
+  pub stop :
+      (e : Refusal) (c : List ℕ) → record-at kind s n m at b ≡ (step.Refused e, c) → records-at kind s n m k at b ≡ (step.Refused e, c)
+  stop e c q = ap (λ (j : ℕ). records-at kind s n m j at b) some ∙ stop-suc kind s n m (k - 1) at b e c q
+
+pub none-left : (kind : Kind) (s : List ℕ) (n m at : ℕ) (b : List ℕ) → records-at kind s n m 0 at b ≡ (step.Next at, b)
+unfolding records-at
+none-left kind s n m at b = refl
+
+-- a whole file, from what its records answered
+module _ (s : List ℕ) (head : Head) (lent : List ℕ) {x : Step × List ℕ} where
+  pub whole-refused : (e : Refusal) (b : List ℕ) → x ≡ (step.Refused e, b) → whole-file s head lent x ≡ (file.Refused e, lent)
+  whole-refused e b u = rw u
+
+  module _ (at : ℕ) (b : List ℕ) (u : x ≡ (step.Next at, b)) where
+    pub whole-more : at < length s → whole-file s head lent x ≡ (file.Refused (refusal 12 at 0), lent)
+    whole-more l = rw (u, lt-ltb _ _ l)
+
+    pub whole-read : length s ≤ at → whole-file s head lent x ≡ (file.File head, b)
+    whole-read l = rw (u, le-ltb _ _ l)
+
+module _ (kind : Kind) (s lent : List ℕ) where
+  pub file-short : (length lent ≡ 1024 → ⊥) → read-file kind s lent ≡ (file.Refused (refusal 2 0 0), lent)
+  unfolding read-file
+  file-short h = simp (ne-eqb _ _ h)
+
+  module _ (w : length lent ≡ 1024) where
+    pub no-rows : (e : Refusal) → size-at s 0 ≡ Refused e → read-file kind s lent ≡ (file.Refused e, lent)
+    unfolding read-file
+    no-rows e q = simp (eq-eqb _ _ w, q)
+
+    module _ (n a : ℕ) (q : size-at s 0 ≡ Read n a) where
+      pub no-columns : (e : Refusal) → size-at s a ≡ Refused e → read-file kind s lent ≡ (file.Refused e, lent)
+      unfolding read-file
+      no-columns e r = simp (eq-eqb _ _ w, q, r)
+
+      module _ (m b : ℕ) (r : size-at s a ≡ Read m b) where
+        pub no-count : (e : Refusal) → number-at s b ≡ Refused e → read-file kind s lent ≡ (file.Refused e, lent)
+        unfolding read-file
+        no-count e t = simp (eq-eqb _ _ w, q, r, t)
+
+        pub head-read :
+            (k c : ℕ) →
+            number-at s b ≡ Read k c →
+            read-file kind s lent
+            ≡ whole-file s (record { rows = n; columns = m; count = k }) lent (records-at kind s n m k c (blank kind n m))
+        unfolding read-file
+        head-read k c t = simp (eq-eqb _ _ w, q, r, t)
