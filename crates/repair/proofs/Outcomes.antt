@@ -9,7 +9,6 @@ use borrow.Author.Tests.{le-leb, lt-leb}
 use Rattle.array.proofs.Bools.{by-lt}
 use Rattle.trials.specs.Trials.{Search, found, exhausted, count}
 use Rattle.trials.specs.Search.{outcome}
-use Rattle.trials.specs.declared.Outcome.{Outcome}
 use Rattle.trials.specs.declared.Outcome.the-variants.{Repaired, Beyond, Spent}
 
 module _ (limit : ℕ) where

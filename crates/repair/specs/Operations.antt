@@ -6,7 +6,6 @@ use Rattle.array.specs.Tests.{or-else, Told, accepts, refuses-as}
 use Rattle.array.specs.Buffer.{written}
 use Rattle.array.specs.Map.{map-test}
 use Rattle.array.specs.declared.Verdict.{Verdict}
-use Rattle.array.specs.declared.Verdict.the-variants as verdict
 use Rattle.plans.specs.Faults.{faults}
 use Rattle.plans.specs.Check.{plan-test}
 use Rattle.trials.specs.Search.{planned, outcome, directions-written}
@@ -17,9 +16,10 @@ use Rattle.track.specs.Letters.{across-letters, down-letters}
 use Rattle.track.specs.Ports.{Wafer}
 use Rattle.track.specs.Follower.{cell-test, switches-test, followed}
 use Rattle.track.specs.declared.Followed.{Followed}
-use Rattle.track.specs.declared.Followed.the-variants as follow
 use Rattle.repair.specs.declared.Answer.{Answer}
 use Rattle.repair.specs.declared.Answer.the-variants.{Planned, Refused}
+use Rattle.array.specs.declared.Verdict.the-variants as verdict
+use Rattle.track.specs.declared.Followed.the-variants as follow
 
 -- plan_repair: 1 to 3, then the outcome of the trials under the limit
 abbrev pub plan-repair-test : ℕ → ℕ → List ℕ → List ℕ → Verdict
