@@ -1,0 +1,341 @@
+-- Demand 3: one statement about a whole run, for every well-formed map, every limit and every content of the lent buffers.
+-- Assumes nothing.
+use Prim.Native.Nat.{ℕ, _<_, _≤_}
+use mathlib.Core.Path.{_≡_, refl, sym, ap, subst, _∙_}
+use mathlib.Core.Bool.{Bool, true, false, cond, not, _&&_}
+use mathlib.Core.Logic.{_⊎_, inl, inr, ⊎-elim, _↔_}
+use mathlib.Core.List.{List, [], _∷_, List·Memᴰ}
+use native.Mathlib.Omega.{arith}
+use borrow.Author.Tests.{eqb-true, eq-eqb, le-leb, lt-ltb, ne-eqb}
+use lib.Dec.{ltb}
+use lib.ListN.{length, getD}
+use Rattle.array.specs.Place.{position, row, column, inner, processor}
+use Rattle.array.specs.Buffer.{long, all-long, written, zeros, buffer}
+use Rattle.array.specs.Map.{healthy, faulty, mark-at}
+use Rattle.array.specs.declared.Verdict.{Verdict}
+use Rattle.array.specs.declared.Verdict.the-variants.{Accepted}
+use Rattle.array.proofs.Bools.{and-true}
+use Rattle.array.proofs.Verdicts.{accept-both, false-accepted}
+use Rattle.array.proofs.Fills.{tabulate-length}
+use Rattle.array.proofs.Formed.{formed, formed-lent, grid-and}
+use Rattle.plans.specs.Faults.{faults, directions-at, paired}
+use Rattle.plans.specs.Plan.{Plan, Every-choice-blocked, First-plan}
+use Rattle.plans.specs.Check.{check-plan, plan-test}
+use Rattle.plans.proofs.Accepts.{accepts-plans, plan-lent}
+use Rattle.trials.specs.Trials.{Search, found, count}
+use Rattle.trials.specs.Search.{T, planned, outcome, direction-of, directions-written}
+use Rattle.trials.specs.declared.Outcome.{Outcome}
+use Rattle.trials.specs.declared.Outcome.the-variants.{Repaired, Beyond, Spent}
+use Rattle.trials.proofs.Theorems.{trial-rule}
+use Rattle.track.specs.Placement.{placement}
+use Rattle.track.specs.Letters.{across-letters, down-letters}
+use Rattle.track.specs.Ports.{Wafer, Compass, _at_}
+use Rattle.track.specs.Link.{Link}
+use Rattle.track.specs.Pieces.{Piece, pieces, Same}
+use Rattle.track.specs.Follower.{position-of, processor-of, out-of, followed, landing, cell-test}
+use Rattle.track.specs.Theorems.{Routed, Cell, Neighbour, right, lower, holder}
+use Rattle.track.proofs.Theorem.{reaches, no-shared-piece}
+use Rattle.track.proofs.Seats.{sits, alone}
+use Rattle.track.proofs.Follows.{follower-own}
+use Rattle.track.proofs.Accepted.{switches-pass, placement-holds}
+use Rattle.repair.specs.Operations.{plan-repair, directions-after, place-cells, places-after, route-switches, across-after, down-after, follow-test, follow-link, answer-after, followed-after}
+use Rattle.repair.specs.Demand3.{Given, Good, answer, planned-directions, placing, places-held, routing, routed, following, paths, T-of, held, Reached, Neighbour-link, pieces-of, After-repaired, Demand3, Demand-3}
+use Rattle.repair.specs.declared.Answer.the-variants.{Planned}
+use Rattle.repair.proofs.Outcomes.{above-spent, spent-above, carried, beyond-exhausted, exhausted-beyond, repaired-found}
+use Rattle.repair.proofs.Written.{paths-again, zero-elsewhere, held-long}
+use Rattle.track.specs.Theorems as track
+
+same-outcome : (o p : Outcome) → Planned o ≡ Planned p → o ≡ p
+same-outcome o p e = cc
+
+module _ (g : Given) (good : Good g) where
+  abbrev search : Search
+  search = planned (g .n) (g .m) (g .grid)
+
+  lengths : (long (g .directions) ≡ true) × (long (g .places) ≡ true) × (long (g .across) ≡ true) × (long (g .down) ≡ true)
+  lengths =
+      let a = and-true (long (g .directions)) _ (good .lent) in
+      let b = and-true (long (g .places)) _ (a .1) in
+      let c = and-true (long (g .across)) _ (b .1) in
+      let d = and-true (long (g .down)) _ (c .1) in
+      (a .0, b .0, c .0, d .0)
+
+  -- the planner accepts the map
+  map-passes : Rattle.array.specs.Map.map-test (g .n) (g .m) (g .grid ∷ g .directions ∷ []) (g .grid) ≡ Accepted
+  map-passes =
+      formed-lent (g .n) (g .m) (g .grid) (long (g .grid) && (long (g .directions) && true)) (good .map)
+      (grid-and (g .n) (g .m) (g .grid) (long (g .directions) && true) (good .map) (rw (lengths .0)))
+
+  answer-is : answer g ≡ Planned (outcome (g .limit) search)
+  unfolding plan-repair
+  answer-is = ap (λ (v : Verdict). answer-after v (outcome (g .limit) search)) map-passes
+
+  directions-are : planned-directions g ≡ directions-written (g .limit) (faults (g .n) (g .m) (g .grid)) search
+  unfolding directions-after
+  directions-are = ap (λ (v : Verdict). written v (directions-written (g .limit) (faults (g .n) (g .m) (g .grid)) search) (g .directions)) map-passes
+
+  is-T : T-of g ≡ count search
+  unfolding T
+  is-T = refl
+
+  -- the planner's outcome
+  spent-when : (answer g ≡ Planned (Spent (g .limit))) ↔ (g .limit < T-of g)
+  unfolding T
+  spent-when = (
+    λ e. spent-above (g .limit) search (same-outcome (outcome (g .limit) search) (Spent (g .limit)) (sym answer-is ∙ e)),
+    λ l. answer-is ∙ ap Planned (above-spent (g .limit) search l),
+  )
+
+  carries : T-of g ≤ g .limit → (answer g ≡ Planned (Repaired (T-of g))) ⊎ (answer g ≡ Planned (Beyond (T-of g)))
+  unfolding T
+  carries l =
+      ⊎-elim (λ e. inl (answer-is ∙ ap Planned e)) (λ e. inr (answer-is ∙ ap Planned e)) (carried (g .limit) search l)
+
+  beyond-when : T-of g ≤ g .limit → (answer g ≡ Planned (Beyond (T-of g))) ↔ Every-choice-blocked (g .n) (g .m) (g .grid)
+  unfolding T
+  beyond-when l = (
+    λ e.
+        trial-rule .none-found (g .n) (g .m) (count search) (g .grid)
+        (beyond-exhausted (g .limit) search (count search) (same-outcome (outcome (g .limit) search) (Beyond (count search)) (sym answer-is ∙ e))),
+    λ b.
+        answer-is
+        ∙ ap (λ (s : Search). Planned (outcome (g .limit) s)) (trial-rule .none-there (g .n) (g .m) (g .grid) b)
+        ∙ ap Planned (exhausted-beyond (g .limit) (count search) l),
+  )
+
+  repaired-else : T-of g ≤ g .limit → (Every-choice-blocked (g .n) (g .m) (g .grid) → ⊥) → answer g ≡ Planned (Repaired (T-of g))
+  repaired-else l b = ⊎-elim (λ e. e) (λ e. absurd (b (beyond-when l .0 e))) (carries l)
+
+  -- what follows on repaired, where the trials have found the plan xs within the limit
+  module _ (xs : List ℕ) (is : search ≡ found (count search) xs) (within : count search ≤ g .limit) where
+    abbrev n : ℕ
+    n = g .n
+
+    abbrev m : ℕ
+    m = g .m
+
+    abbrev grid : List ℕ
+    grid = g .grid
+
+    abbrev dirs : List ℕ
+    dirs = planned-directions g
+
+    abbrev w : Wafer
+    w = routed g
+
+    first : First-plan n m grid xs
+    first = trial-rule .first-of-plans n m (count search) grid xs is
+
+    grid-long : length grid ≡ 1024
+    grid-long = formed n m grid (good .map) .length-is
+
+    one-each : length xs ≡ length (faults n m grid)
+    one-each = first .is-plan .one-path .one-each
+
+    dirs-are : dirs ≡ buffer (direction-of (paired (faults n m grid) xs))
+    unfolding directions-written
+    dirs-are =
+        directions-are
+        ∙ ap (directions-written (g .limit) (faults n m grid)) is
+        ∙ ap (λ (b : Bool). cond b (buffer (direction-of (paired (faults n m grid) xs))) zeros) (le-leb (count search) (g .limit) within)
+
+    paths-are : paths g ≡ xs
+    paths-are = ap (λ (b : List ℕ). directions-at b (faults n m grid)) dirs-are ∙ paths-again n m grid xs grid-long one-each
+
+    plan-here : Plan n m grid (directions-at dirs (faults n m grid))
+    plan-here = subst (λ (l : List ℕ). Plan n m grid l) (sym paths-are) (first .is-plan)
+
+    dirs-long : length dirs ≡ 1024
+    dirs-long = ap length dirs-are ∙ held-long n m grid xs grid-long one-each
+
+    checked : check-plan n m grid dirs ≡ Accepted
+    checked =
+        accepts-plans n m grid dirs .1
+        (record {
+          map = good .map;
+          length-right = dirs-long;
+          plan = plan-here;
+          elsewhere = λ p h f. ap (λ (b : List ℕ). getD b p 0) dirs-are ∙ zero-elsewhere n m grid xs grid-long one-each p h f;
+        })
+
+    both-long : (long grid && (long dirs && true)) ≡ true
+    both-long = rw (eq-eqb (length grid) 1024 grid-long, eq-eqb (length dirs) 1024 dirs-long)
+
+    -- 1 to 7 pass, whichever other buffers of their length are lent
+    passes : (others : List (List ℕ)) → all-long others ≡ true → plan-test n m (grid ∷ dirs ∷ others) grid dirs ≡ Accepted
+    passes others h =
+        plan-lent n m grid dirs (long grid && (long dirs && all-long others)) checked
+        (rw (eq-eqb (length grid) 1024 grid-long, eq-eqb (length dirs) 1024 dirs-long, h))
+
+    placed : placing g ≡ Accepted
+    unfolding place-cells
+    placed = passes (g .places ∷ []) (rw (lengths .1))
+
+    routed-right : routing g ≡ Accepted
+    unfolding route-switches
+    routed-right = passes (g .across ∷ g .down ∷ []) (rw (lengths .2, lengths .3))
+
+    places-are : places-held g ≡ placement n m grid dirs
+    unfolding places-after
+    places-are = ap (λ (v : Verdict). written v (placement n m grid dirs) (g .places)) placed
+
+    across-are : w .across ≡ across-letters n m grid dirs
+    unfolding across-after
+    across-are = ap (λ (v : Verdict). written v (across-letters n m grid dirs) (g .across)) routed-right
+
+    down-are : w .down ≡ down-letters n m grid dirs
+    unfolding down-after
+    down-are = ap (λ (v : Verdict). written v (down-letters n m grid dirs) (g .down)) routed-right
+
+    wafer-routed : Routed w
+    wafer-routed = record { map = good .map; plan = plan-here; across-set = across-are; down-set = down-are }
+
+    -- the placement holds the seats
+    held-is : (i j : ℕ) → Cell w i j → held g i j ≡ holder w i j
+    held-is i j c = ap (λ (b : List ℕ). getD b (position i j) 0) places-are ∙ placement-holds w wafer-routed i j c
+
+    all-sit : (i j : ℕ) → Cell w i j → (processor n m (held g i j) ≡ true) × (healthy grid (held g i j) ≡ true)
+    all-sit i j c = rw (held-is i j c) (sits w wafer-routed i j c)
+
+    all-alone : (i j k l : ℕ) → Cell w i j → Cell w k l → held g i j ≡ held g k l → (i ≡ k) × (j ≡ l)
+    all-alone i j k l c d e = alone w wafer-routed i j k l c d (sym (held-is i j c) ∙ e ∙ held-is k l d)
+
+    -- the cells at both ends of a link to a neighbour, and its side
+    from-cell : (i j side k l : ℕ) (port : Compass) → Neighbour w i j side k l port → Cell w i j
+    from-cell i j side k l port (right c h) = c
+    from-cell i j side k l port (lower c h) = c
+
+    to-cell : (i j side k l : ℕ) (port : Compass) → Neighbour w i j side k l port → Cell w k l
+    to-cell i j side k l port (right c h) =
+        record { row-low = c .row-low; row-high = c .row-high; column-low = omega arith; column-high = omega arith }
+    to-cell i j side k l port (lower c h) =
+        record { row-low = omega arith; row-high = omega arith; column-low = c .column-low; column-high = c .column-high }
+
+    side-small : (i j side k l : ℕ) (port : Compass) → Neighbour w i j side k l port → side < 2
+    side-small i j side k l port (right c h) = omega arith
+    side-small i j side k l port (lower c h) = omega arith
+
+    -- 15 and 16 pass
+    cell-passes : (i j side : ℕ) → Cell w i j → side < 2 → cell-test w (position i j) side ≡ Accepted
+    cell-passes i j side c h =
+        let s = formed n m grid (good .map) .sizes in
+        let x : row (position i j) ≡ i = omega (arith, c .column-high, s .columns-high) in
+        let y : column (position i j) ≡ j = omega (arith, c .column-high, s .columns-high) in
+        let e : not (inner n m (position i j) && ltb side 2) ≡ false =
+        rw (x, y, le-leb 1 i (c .row-low), le-leb i n (c .row-high), le-leb 1 j (c .column-low), le-leb j m (c .column-high), lt-ltb side 2 h) in
+        false-accepted 15 0 0 e
+
+    switches-long : all-long (w .across ∷ w .down ∷ []) ≡ true
+    unfolding across-letters down-letters
+    switches-long =
+        let a : length (w .across) ≡ 1024 = ap length across-are ∙ tabulate-length _ 1024 in
+        let d : length (w .down) ≡ 1024 = ap length down-are ∙ tabulate-length _ 1024 in
+        rw (eq-eqb (length (w .across)) 1024 a, eq-eqb (length (w .down)) 1024 d)
+
+    follow-accepted : (i j side : ℕ) → Cell w i j → side < 2 → following g i j side ≡ followed w (position i j) side
+    unfolding follow-link follow-test
+    follow-accepted i j side c h =
+        ap (λ (v : Verdict). followed-after v (followed w (position i j) side))
+        (accept-both (passes (w .across ∷ w .down ∷ []) switches-long)
+        (accept-both (cell-passes i j side c h) (switches-pass w across-are down-are)))
+
+    -- a healthy processor is not faulty, and stands where its row and column say
+    not-faulty : (p : ℕ) → healthy grid p ≡ true → faulty grid (position-of (processor-of p)) ≡ false
+    not-faulty p h =
+        let e : position (row p) (column p) ≡ p = omega arith in
+        let k = eqb-true (mark-at grid p) 0 h in
+        rw e (ne-eqb (mark-at grid p) 1 (λ z. omega (arith, k, z)))
+
+    all-reach : (i j side k l : ℕ) (port : Compass) → Neighbour w i j side k l port → Reached g i j side k l port
+    all-reach i j side k l port to =
+        let c = from-cell i j side k l port to in
+        let d = to-cell i j side k l port to in
+        let r = reaches w wafer-routed i j side k l port to in
+        let e = processor-of (holder w k l) at port in
+        let z : position (row (holder w k l)) (column (holder w k l)) ≡ holder w k l = omega arith in
+        record {
+          link = r .link;
+          is-link = rw (held-is i j c) (r .is-link);
+          end = e;
+          ends = r .ends;
+          own =
+              follow-accepted i j side c (side-small i j side k l port to)
+              ∙ follower-own .answers w (position i j) side (landing (r .link) e)
+              (record {
+                link = r .link;
+                is-link = r .is-link;
+                end = e;
+                ends = r .ends;
+                healthy-end = not-faulty (holder w k l) (sits w wafer-routed k l d .1);
+                few = r .few;
+                is = refl;
+              });
+          at-neighbour = z ∙ sym (held-is k l d);
+          by-port = refl;
+          few = r .few;
+        }
+
+    -- a link of the run as a link of the wafer
+    abbrev wafer-link : Neighbour-link g → track.Neighbour-link w
+    wafer-link u =
+        record {
+          i = u .i;
+          j = u .j;
+          side = u .side;
+          k = u .k;
+          l = u .l;
+          port = u .port;
+          to = u .to;
+          link = u .link;
+          is-link =
+              subst (λ (p : ℕ). Link w (out-of p (u .side)) (u .link))
+              (held-is (u .i) (u .j) (from-cell (u .i) (u .j) (u .side) (u .k) (u .l) (u .port) (u .to))) (u .is-link);
+        }
+
+    same-pieces : (u : Neighbour-link g) → pieces-of g u ≡ track.pieces-of w (wafer-link u)
+    same-pieces u =
+        ap (λ (p : ℕ). pieces (out-of p (u .side)) (u .link))
+        (held-is (u .i) (u .j) (from-cell (u .i) (u .j) (u .side) (u .k) (u .l) (u .port) (u .to)))
+
+    none-shared : (u v : Neighbour-link g) (a b : Piece) → List·Memᴰ a (pieces-of g u) → List·Memᴰ b (pieces-of g v)
+        → Same a b → (u .i ≡ v .i) × (u .j ≡ v .j) × (u .side ≡ v .side)
+    none-shared u v a b p q s =
+        no-shared-piece w wafer-routed (wafer-link u) (wafer-link v) a b
+        (subst (λ (l : List Piece). List·Memᴰ a l) (same-pieces u) p)
+        (subst (λ (l : List Piece). List·Memᴰ b l) (same-pieces v) q)
+        s
+
+    after-found : After-repaired g
+    unfolding T
+    after-found =
+        record {
+          by-rule = is ∙ ap (found (count search)) (sym paths-are);
+          first-plan = subst (λ (l : List ℕ). First-plan n m grid l) (sym paths-are) first;
+          placing-accepted = placed;
+          placement-defined = places-are;
+          routing-accepted = routed-right;
+          across-defined = across-are;
+          down-defined = down-are;
+          sits = all-sit;
+          alone = all-alone;
+          reaches = all-reach;
+          no-shared-piece = none-shared;
+        }
+
+  after-repaired : (t : ℕ) → answer g ≡ Planned (Repaired t) → After-repaired g
+  after-repaired t e =
+      let f = repaired-found (g .limit) search t (same-outcome (outcome (g .limit) search) (Repaired t) (sym answer-is ∙ e)) in
+      after-found (f .xs) (f .is) (f .within)
+
+  whole-run : Demand3 g
+  whole-run =
+      record {
+        spent = spent-when;
+        carries-T = carries;
+        beyond = beyond-when;
+        repaired = repaired-else;
+        after = after-repaired;
+      }
+
+pub demand-3 : Demand-3
+demand-3 g good = whole-run g good

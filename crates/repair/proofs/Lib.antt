@@ -1,0 +1,3 @@
+pub mod Outcomes
+pub mod Written
+pub mod Demand3

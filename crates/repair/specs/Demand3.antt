@@ -1,0 +1,161 @@
+-- Demand 3, as one statement about a whole run (document 00, demand 3; document 01, end of "Placement and routing").
+-- Assumes nothing.
+use Prim.Native.Nat.{ℕ, _≤_, _<_}
+use mathlib.Core.Path.{_≡_}
+use mathlib.Core.Bool.{true}
+use mathlib.Core.Logic.{_⊎_, _↔_}
+use mathlib.Core.List.{List, [], _∷_, List·Memᴰ}
+use lib.ListN.{getD}
+use Rattle.array.specs.Place.{position, processor}
+use Rattle.array.specs.Buffer.{all-long}
+use Rattle.array.specs.Map.{well-formed, healthy}
+use Rattle.array.specs.declared.Verdict.{Verdict}
+use Rattle.array.specs.declared.Verdict.the-variants.{Accepted}
+use Rattle.plans.specs.Faults.{faults, directions-at}
+use Rattle.plans.specs.Plan.{Every-choice-blocked, First-plan}
+use Rattle.trials.specs.Trials.{found}
+use Rattle.trials.specs.Search.{T, planned}
+use Rattle.trials.specs.declared.Outcome.the-variants.{Repaired, Beyond, Spent}
+use Rattle.track.specs.Placement.{placement}
+use Rattle.track.specs.Letters.{across-letters, down-letters}
+use Rattle.track.specs.Ports.{Wafer, Compass, Port}
+use Rattle.track.specs.Link.{Trail, Link, Enters, switches}
+use Rattle.track.specs.Pieces.{Piece, pieces, Same}
+use Rattle.track.specs.Follower.{position-of, out-of, landing}
+use Rattle.track.specs.Theorems.{Cell, Neighbour}
+use Rattle.track.specs.declared.Followed.{Followed}
+use Rattle.track.specs.declared.Followed.the-variants.{Entered}
+use Rattle.repair.specs.Operations.{plan-repair, directions-after, place-cells, places-after, route-switches, across-after, down-after, follow-link}
+use Rattle.repair.specs.declared.Answer.{Answer}
+use Rattle.repair.specs.declared.Answer.the-variants.{Planned}
+
+-- what is given to a run: a fault map, a limit, and the lent buffers with whatever they hold
+pub record Given : Type 0 where
+  pub n : ℕ
+  pub m : ℕ
+  pub grid : List ℕ
+  pub limit : ℕ
+  pub directions : List ℕ
+  pub places : List ℕ
+  pub across : List ℕ
+  pub down : List ℕ
+
+-- the map is well-formed, the limit is a u32, and all buffers of the run pass 2
+pub record Good (g : Given) : Type 0 where
+  pub map : well-formed (g .n) (g .m) (g .grid) ≡ Accepted
+  pub u32 : g .limit < 4294967296
+  pub lent : all-long (g .directions ∷ g .places ∷ g .across ∷ g .down ∷ []) ≡ true
+
+-- THE RUN. The planner's answer. The direction buffer that it writes goes unchanged, with the same N, M and grid, to the placement, the
+-- routing and the follower, and the routing's two switch buffers go unchanged to the follower.
+abbrev pub answer : Given → Answer
+answer g = plan-repair (g .n) (g .m) (g .grid) (g .directions) (g .limit)
+
+abbrev pub planned-directions : Given → List ℕ
+planned-directions g = directions-after (g .n) (g .m) (g .grid) (g .directions) (g .limit)
+
+abbrev pub placing : Given → Verdict
+placing g = place-cells (g .n) (g .m) (g .grid) (planned-directions g) (g .places)
+
+abbrev pub places-held : Given → List ℕ
+places-held g = places-after (g .n) (g .m) (g .grid) (planned-directions g) (g .places)
+
+abbrev pub routing : Given → Verdict
+routing g = route-switches (g .n) (g .m) (g .grid) (planned-directions g) (g .across) (g .down)
+
+-- the wafer that the follower is given
+abbrev pub routed : Given → Wafer
+routed g =
+    record {
+      rows = g .n;
+      columns = g .m;
+      grid = g .grid;
+      directions = planned-directions g;
+      across = across-after (g .n) (g .m) (g .grid) (planned-directions g) (g .across) (g .down);
+      down = down-after (g .n) (g .m) (g .grid) (planned-directions g) (g .across) (g .down);
+    }
+
+abbrev pub following : Given → ℕ → ℕ → ℕ → Followed
+following g i j side = follow-link (routed g) (position i j) side
+
+-- the paths of a run: the directions written, in fault order
+abbrev pub paths : Given → List ℕ
+paths g = directions-at (planned-directions g) (faults (g .n) (g .m) (g .grid))
+
+-- T of the map
+abbrev pub T-of : Given → ℕ
+T-of g = T (g .n) (g .m) (g .grid)
+
+-- the position that the placement holds for cell [i, j], and the port of the processor there by which its link on a side leaves
+abbrev pub held : Given → ℕ → ℕ → ℕ
+held g i j = getD (places-held g) (position i j) 0
+
+abbrev pub out : Given → ℕ → ℕ → ℕ → Port
+out g i j side = out-of (held g i j) side
+
+-- the link of [i, j] on a side, which is to reach [k, l] by a port
+pub record Reached (g : Given) (i j side k l : ℕ) (port : Compass) : Type 0 where
+  -- there is a link, run through the switches that routing sets, and it enters a processor by the port `end`
+  pub link : Trail
+  pub is-link : Link (routed g) (out g i j side) link
+  pub end : Port
+  pub ends : Enters link end
+  -- the follower accepts, and its answer is that of the link itself: the end's position and port number, and the link's switches
+  pub own : following g i j side ≡ Entered (landing link end)
+  -- the position entered is the one that the placement holds for the neighbour
+  pub at-neighbour : position-of (end .node) ≡ held g k l
+  pub by-port : end .side ≡ port
+  pub few : switches link ≤ 3
+
+-- a link to a neighbour, named by its cell and side, and all the pieces that it runs over
+pub record Neighbour-link (g : Given) : Type 0 where
+  pub i : ℕ
+  pub j : ℕ
+  pub side : ℕ
+  pub k : ℕ
+  pub l : ℕ
+  pub port : Compass
+  pub to : Neighbour (routed g) i j side k l port
+  pub link : Trail
+  pub is-link : Link (routed g) (out g i j side) link
+
+abbrev pub pieces-of : (g : Given) → Neighbour-link g → List Piece
+pieces-of g u = pieces (out g (u .i) (u .j) (u .side)) (u .link)
+
+-- what follows on `repaired`
+pub record After-repaired (g : Given) : Type 0 where
+  -- the paths are those that the trial rule finds, a plan, and the first of all plans
+  pub by-rule : planned (g .n) (g .m) (g .grid) ≡ found (T-of g) (paths g)
+  pub first-plan : First-plan (g .n) (g .m) (g .grid) (paths g)
+  -- placement and routing accept, and give the placement and the switch letters that document 01 defines for the paths
+  pub placing-accepted : placing g ≡ Accepted
+  pub placement-defined : places-held g ≡ placement (g .n) (g .m) (g .grid) (planned-directions g)
+  pub routing-accepted : routing g ≡ Accepted
+  pub across-defined : routed g .across ≡ across-letters (g .n) (g .m) (g .grid) (planned-directions g)
+  pub down-defined : routed g .down ≡ down-letters (g .n) (g .m) (g .grid) (planned-directions g)
+  -- each logical cell sits on a healthy processor, and no two on the same one
+  pub sits : (i j : ℕ) → Cell (routed g) i j
+      → (processor (g .n) (g .m) (held g i j) ≡ true) × (healthy (g .grid) (held g i j) ≡ true)
+  pub alone : (i j k l : ℕ) → Cell (routed g) i j → Cell (routed g) k l → held g i j ≡ held g k l → (i ≡ k) × (j ≡ l)
+  -- the track followed from any cell to a right or lower neighbour reaches it, by W or by N, over at most three switches
+  pub reaches : (i j side k l : ℕ) (port : Compass) → Neighbour (routed g) i j side k l port → Reached g i j side k l port
+  -- no two such links of different name share a piece of track
+  pub no-shared-piece : (u v : Neighbour-link g) (a b : Piece) → List·Memᴰ a (pieces-of g u) → List·Memᴰ b (pieces-of g v)
+      → Same a b → (u .i ≡ v .i) × (u .j ≡ v .j) × (u .side ≡ v .side)
+
+-- DEMAND 3, of one run
+pub record Demand3 (g : Given) : Type 0 where
+  -- spent, with the limit, exactly when T is above the limit
+  pub spent : (answer g ≡ Planned (Spent (g .limit))) ↔ (g .limit < T-of g)
+  -- otherwise the answer carries T
+  pub carries-T : T-of g ≤ g .limit → (answer g ≡ Planned (Repaired (T-of g))) ⊎ (answer g ≡ Planned (Beyond (T-of g)))
+  -- and it is beyond repair exactly when every choice has a path that isn't open, a meeting or a near-miss
+  pub beyond : T-of g ≤ g .limit → (answer g ≡ Planned (Beyond (T-of g))) ↔ Every-choice-blocked (g .n) (g .m) (g .grid)
+  -- in every other case it is repaired
+  pub repaired : T-of g ≤ g .limit → (Every-choice-blocked (g .n) (g .m) (g .grid) → ⊥) → answer g ≡ Planned (Repaired (T-of g))
+  -- and then all that is said of its paths holds
+  pub after : (t : ℕ) → answer g ≡ Planned (Repaired t) → After-repaired g
+
+-- for every well-formed map, every limit and every content of the lent buffers
+abbrev pub Demand-3 : Type 0
+Demand-3 = (g : Given) → Good g → Demand3 g

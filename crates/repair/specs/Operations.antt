@@ -1,0 +1,81 @@
+-- The planner, the placement, the routing and the follower: what each answers, and every buffer afterwards, for refused calls too.
+-- The arguments `directions`, `places`, `across` and `down` are the buffers as they are lent. Assumes nothing.
+use Prim.Native.Nat.{ℕ}
+use mathlib.Core.List.{List, [], _∷_}
+use Rattle.array.specs.Tests.{or-else, Told, accepts, refuses-as}
+use Rattle.array.specs.Buffer.{written}
+use Rattle.array.specs.Map.{map-test}
+use Rattle.array.specs.declared.Verdict.{Verdict}
+use Rattle.plans.specs.Faults.{faults}
+use Rattle.plans.specs.Check.{plan-test}
+use Rattle.trials.specs.Search.{planned, outcome, directions-written}
+use Rattle.trials.specs.declared.Outcome.{Outcome}
+use Rattle.trials.specs.declared.Outcome.the-variants.{Repaired, Beyond, Spent}
+use Rattle.track.specs.Placement.{placement}
+use Rattle.track.specs.Letters.{across-letters, down-letters}
+use Rattle.track.specs.Ports.{Wafer}
+use Rattle.track.specs.Follower.{cell-test, switches-test, followed}
+use Rattle.track.specs.declared.Followed.{Followed}
+use Rattle.repair.specs.declared.Answer.{Answer}
+use Rattle.repair.specs.declared.Answer.the-variants.{Planned, Refused}
+use Rattle.array.specs.declared.Verdict.the-variants as verdict
+use Rattle.track.specs.declared.Followed.the-variants as follow
+
+-- plan_repair: 1 to 3, then the outcome of the trials under the limit
+abbrev pub plan-repair-test : ℕ → ℕ → List ℕ → List ℕ → Verdict
+plan-repair-test n m grid directions = map-test n m (grid ∷ directions ∷ []) grid
+
+abbrev pub answer-after : Verdict → Outcome → Answer
+answer-after verdict.Accepted o = Planned o
+answer-after (verdict.Refused r) o = Refused r
+
+unfoldable pub plan-repair : ℕ → ℕ → List ℕ → List ℕ → ℕ → Answer
+plan-repair n m grid directions limit =
+    answer-after (plan-repair-test n m grid directions) (outcome limit (planned n m grid))
+
+unfoldable pub directions-after : ℕ → ℕ → List ℕ → List ℕ → ℕ → List ℕ
+directions-after n m grid directions limit =
+    written (plan-repair-test n m grid directions) (directions-written limit (faults n m grid) (planned n m grid)) directions
+
+-- the kind of outcome (0 repaired, 1 beyond repair, 2 spent) and the count that it carries, or the refusal
+abbrev pub outcome-told : Outcome → Told
+outcome-told (Repaired t) = accepts (0 ∷ t ∷ [])
+outcome-told (Beyond t) = accepts (1 ∷ t ∷ [])
+outcome-told (Spent limit) = accepts (2 ∷ limit ∷ [])
+
+abbrev pub told : Answer → Told
+told (Planned o) = outcome-told o
+told (Refused r) = refuses-as r
+
+-- place_cells: 1 to 7, then the placement
+unfoldable pub place-cells : ℕ → ℕ → List ℕ → List ℕ → List ℕ → Verdict
+place-cells n m grid directions places = plan-test n m (grid ∷ directions ∷ places ∷ []) grid directions
+
+unfoldable pub places-after : ℕ → ℕ → List ℕ → List ℕ → List ℕ → List ℕ
+places-after n m grid directions places =
+    written (place-cells n m grid directions places) (placement n m grid directions) places
+
+-- route_switches: 1 to 7, then both switch buffers
+unfoldable pub route-switches : ℕ → ℕ → List ℕ → List ℕ → List ℕ → List ℕ → Verdict
+route-switches n m grid directions across down = plan-test n m (grid ∷ directions ∷ across ∷ down ∷ []) grid directions
+
+unfoldable pub across-after : ℕ → ℕ → List ℕ → List ℕ → List ℕ → List ℕ → List ℕ
+across-after n m grid directions across down =
+    written (route-switches n m grid directions across down) (across-letters n m grid directions) across
+
+unfoldable pub down-after : ℕ → ℕ → List ℕ → List ℕ → List ℕ → List ℕ → List ℕ
+down-after n m grid directions across down =
+    written (route-switches n m grid directions across down) (down-letters n m grid directions) down
+
+-- follow_link: 1 to 7, 15, 16, then the link, with 17 and 18. It writes nothing.
+unfoldable pub follow-test : Wafer → ℕ → ℕ → Verdict
+follow-test w cell side =
+    or-else (plan-test (w .rows) (w .columns) (w .grid ∷ w .directions ∷ w .across ∷ w .down ∷ []) (w .grid) (w .directions))
+    (or-else (cell-test w cell side) (switches-test w))
+
+abbrev pub followed-after : Verdict → Followed → Followed
+followed-after verdict.Accepted f = f
+followed-after (verdict.Refused r) f = follow.Refused r
+
+unfoldable pub follow-link : Wafer → ℕ → ℕ → Followed
+follow-link w cell side = followed-after (follow-test w cell side) (followed w cell side)
