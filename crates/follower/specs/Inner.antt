@@ -132,6 +132,10 @@ pub record Finds (w : Wafer) (p : Port) (r : Inside) : Type 0 where
   pub is : seen (node-of p) r ≡ link.inside w (port-of p)
   pub sound : Sound-inside r
 
+-- the node entered is a fourth switch
+abbrev pub fourth : ℕ → ℕ → Bool
+fourth kind passed = not (eqb kind 0) && eqb passed 3
+
 -- A link followed: v is where it goes on, or f the follower's answer. What the answer is, with k nodes more.
 abbrev pub answer : Wafer → ℕ → Step → Followed
 answer w k (Go v) = judged (w .grid) (v .last) (v .passed) (run w k (port-of (v .port)))
@@ -154,8 +158,11 @@ pub record Steps (w : Wafer) (last passed : ℕ) (t : ℕ → Trail) (r : Step) 
 abbrev pub passing : Wafer → track.Port → track.Port → ℕ → Trail
 passing w i q k = link.passes i q (run w k q)
 
+abbrev pub inside-as : Wafer → track.Port → ℕ → link.Inside → Trail
+inside-as w i k v = elim v [ ends ↦ link.enters i | on q ↦ passing w i q k | stops ↦ link.unjoined-at i ]
+
 abbrev pub entering : Wafer → track.Port → ℕ → Trail
-entering w i k = elim (link.inside w i) [ ends ↦ link.enters i | on q ↦ passing w i q k | stops ↦ link.unjoined-at i ]
+entering w i k = inside-as w i k (link.inside w i)
 
 abbrev pub leaving : Wafer → track.Port → ℕ → Trail
 leaving w o k = run w (suc k) o

@@ -1,58 +1,59 @@
+-- `follower::inside_at` meets its contract, kind by kind.
+-- Assumes nothing.
+use mathlib.Core.Path.{sym, ap, _∙_}
+use denote.Ref.{now}
+use Prim.Native.Nat.{ℕ}
+use lib.ListN.{getD}
+use Rattle.array.specs.Map.{inner-faulty}
+use Rattle.array.proofs.Marks.{mark-read}
+use Rattle.follower.specs.Inner.{compass, processor-joins}
+use Rattle.follower.proofs.Sides.{finds-processor, finds-across, finds-down}
 use borrow.Author.Needs.{needs}
+use native.Mathlib.Omega.{arith}
 use Rattle.follower.proofs.inside_at.Statement.{statement}
 use Rattle.follower.proofs.inside_at.Tie as tie
-use Rattle.follower.proofs.inside_at.Reads as reads
-use Rattle.follower.proofs.inside_at.Lts as lts
-use Rattle.follower.proofs.processor_join.Reads as processor-join-reads
-use Rattle.follower.proofs.switch_join.Reads as switch-join-reads
 
--- src/lib.rt:217:13
 mul-p : tie.Need-mul-p
 mul-p c = search needs
 
--- src/lib.rt:217:13
 add-p : tie.Need-add-p
 add-p c = search needs
 
--- src/lib.rt:219:40
 shared-slice-read-processor-join : tie.Need-shared-slice-read-processor-join
 shared-slice-read-processor-join c = search needs
 
--- src/lib.rt:219:49
 shared-slice-read-processor-join-2 : tie.Need-shared-slice-read-processor-join-2
 shared-slice-read-processor-join-2 c = search needs
 
--- src/lib.rt:219:9
 processor-join-requires : tie.Need-processor-join-requires
 processor-join-requires c κs = search needs
 
--- src/lib.rt:219:9
 returns : tie.Need-returns
-returns c = ?
+returns c =
+    let s = c .before .before .before .before .before .before .before .before .before .before in
+    let a = s .args in
+    finds-processor _ (a .port) _ (c .before .before .before .if1 .taken)
+    (c .processor-join .ensures
+    ∙ ap (λ (x : ℕ). processor-joins (inner-faulty (a .n) (a .m) _ x) (getD (now (a .directions)) _ 0) (compass (a .port .side)))
+    (sym (mark-read (now (a .grid)) _ (omega arith))))
 
--- src/lib.rt:222:31
 shared-slice-read-switch-join : tie.Need-shared-slice-read-switch-join
 shared-slice-read-switch-join c = search needs
 
--- src/lib.rt:222:9
 switch-join-requires : tie.Need-switch-join-requires
 switch-join-requires c κs = search needs
 
--- src/lib.rt:222:9
 returns-2 : tie.Need-returns-2
-returns-2 c = ?
+returns-2 c = finds-across _ (c .before .before .before .before .before .before .before .before .before .before .args .port) _ (c .before .before .if2 .taken) (c .switch-join .ensures)
 
--- src/lib.rt:224:20
 shared-slice-read-switch-join-2 : tie.Need-shared-slice-read-switch-join-2
 shared-slice-read-switch-join-2 c = search needs
 
--- src/lib.rt:224:5
 switch-join-requires-2 : tie.Need-switch-join-requires-2
 switch-join-requires-2 c κs = search needs
 
--- src/lib.rt:211:1
 returns-3 : tie.Need-returns-3
-returns-3 c = ?
+returns-3 c = finds-down _ (c .before .before .before .before .before .before .before .before .before .before .args .port) _ (omega arith) (c .switch-join2 .ensures)
 
 pub inside-at-spec : {M : Type 1} → statement M
 inside-at-spec =

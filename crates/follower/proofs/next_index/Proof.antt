@@ -1,36 +1,32 @@
+-- `follower::next_index` meets its contract.
+-- Assumes nothing.
+use borrow.Author.Tests.{eq-eqb, ne-eqb}
+use Rattle.follower.proofs.Sides.{not-before}
 use borrow.Author.Needs.{needs}
+use native.Mathlib.Omega.{arith}
 use Rattle.follower.proofs.next_index.Statement.{statement}
 use Rattle.follower.proofs.next_index.Tie as tie
-use Rattle.follower.proofs.next_index.Reads as reads
-use Rattle.follower.proofs.next_index.Lts as lts
 
--- src/lib.rt:86:20
 add-if2 : tie.Need-add-if2
 add-if2 c = search needs
 
--- src/lib.rt:86:46
 sub-result : tie.Need-sub-result
-sub-result c = ?
+sub-result c = let s = c .before .before in not-before (s .args .kind) (s .args .side) (s .args .i) (s .pre .2) (c .before .if1 .taken) (c .if2 .left)
 
--- src/lib.rt:88:35
 add-result : tie.Need-add-result
 add-result c = search needs
 
--- src/lib.rt:81:1
 returns : tie.Need-returns
-returns c = ?
+returns c = (simp (eq-eqb _ _ (c .before .if1 .taken), eq-eqb _ _ (c .if2 .taken)), omega arith)
 
--- src/lib.rt:81:1
 returns-2 : tie.Need-returns-2
-returns-2 c = ?
+returns-2 c = (simp (eq-eqb _ _ (c .before .if1 .taken), ne-eqb _ _ (c .if2 .left)), omega arith)
 
--- src/lib.rt:81:1
 returns-3 : tie.Need-returns-3
-returns-3 c = ?
+returns-3 c = (simp (ne-eqb _ _ (c .before .if1 .left), eq-eqb _ _ (c .if3 .taken)), omega arith)
 
--- src/lib.rt:81:1
 returns-4 : tie.Need-returns-4
-returns-4 c = ?
+returns-4 c = (simp (ne-eqb _ _ (c .before .if1 .left), ne-eqb _ _ (c .if3 .left)), omega arith)
 
 pub next-index-spec : {M : Type 1} → statement M
 next-index-spec =

@@ -1,26 +1,28 @@
+-- `follower::processor_join` meets its contract.
+-- Assumes nothing.
+use mathlib.Core.Path.{_≡_, sym, ap, _∙_}
+use mathlib.Core.Bool.{Bool, _&&_}
+use lib.Dec.{eqb}
+use Rattle.array.specs.Map.{inner-faulty}
+use Rattle.array.proofs.Bools.{cond-taken, cond-left}
 use borrow.Author.Needs.{needs}
 use Rattle.follower.proofs.processor_join.Statement.{statement}
 use Rattle.follower.proofs.processor_join.Tie as tie
-use Rattle.follower.proofs.processor_join.Reads as reads
-use Rattle.follower.proofs.processor_join.Lts as lts
-use Rattle.array.proofs.is_inner.Reads as is-inner-reads
-use Rattle.follower.proofs.fault_join.Reads as fault-join-reads
 
--- src/lib.rt:204:8
+tested : (c : tie.After-is-inner) → (c .is-inner .result && eqb (c .before .args .mark) 1) ≡ inner-faulty (c .before .args .n) (c .before .args .m) (c .before .args .p) (c .before .args .mark)
+tested c = ap (λ (z : Bool). z && eqb (c .before .args .mark) 1) (c .is-inner .ensures)
+
 is-inner-requires : tie.Need-is-inner-requires
 is-inner-requires c κs = search needs
 
--- src/lib.rt:205:9
 fault-join-requires : tie.Need-fault-join-requires
 fault-join-requires c κs = search needs
 
--- src/lib.rt:205:9
 returns : tie.Need-returns
-returns c = ?
+returns c = c .fault-join .ensures ∙ sym (cond-taken _ _ (tested (c .before .before)) (c .before .if1 .taken))
 
--- src/lib.rt:200:1
 returns-2 : tie.Need-returns-2
-returns-2 c = ?
+returns-2 c = sym (cond-left _ _ (tested (c .before)) (c .if1 .left))
 
 pub processor-join-spec : {M : Type 1} → statement M
 processor-join-spec = tie.close (tie.spec is-inner-requires fault-join-requires returns returns-2)

@@ -1,38 +1,42 @@
+-- `follower::stretch_from` meets its contract.
+-- Assumes nothing.
+use mathlib.Core.Path.{sym, _∙_}
+use Rattle.follower.proofs.Sides.{stretch-none, stretch-on, stretch-off}
 use borrow.Author.Needs.{needs}
 use Rattle.follower.proofs.stretch_from.Statement.{statement}
 use Rattle.follower.proofs.stretch_from.Tie as tie
-use Rattle.follower.proofs.stretch_from.Reads as reads
-use Rattle.follower.proofs.stretch_from.Lts as lts
-use Rattle.follower.proofs.is_standing.Reads as is-standing-reads
-use Rattle.follower.proofs.neighbour_of.Reads as neighbour-of-reads
 
--- src/lib.rt:152:9
 neighbour-of-requires : tie.Need-neighbour-of-requires
 neighbour-of-requires c κs = search needs
 
--- src/lib.rt:153:21
 enum-known-s : tie.Need-enum-known-s
 enum-known-s c = search needs
 
--- src/lib.rt:154:9
 enum-told : tie.Need-enum-told
 enum-told c = search needs
 
--- src/lib.rt:154:9
 returns : tie.Need-returns
-returns c = ?
+returns c = let e = c .enum-told .given .1 in rw e (stretch-none _ _ _ (rw e at (c .before .before .neighbour-of .ensures)))
 
--- src/lib.rt:156:8
 is-standing-requires : tie.Need-is-standing-requires
-is-standing-requires c κs = ?
+is-standing-requires c κs =
+    let s = c .before in
+    let p = c .before .before .before .before .pre in
+    let h = rw (s .s .given .1) at (s .before .before .neighbour-of .ensures) in
+    (p .0, p .1, h .near .1, h .near .2)
 
--- src/lib.rt:157:9
 returns-2 : tie.Need-returns-2
-returns-2 c = ?
+returns-2 c =
+    let s = c .before .before .before in
+    let e = s .s .given .1 in
+    stretch-on _ _ _ _ (rw e at (s .before .before .neighbour-of .ensures)) (s .before .before .before .pre .0) (s .before .before .before .pre .1)
+    (sym (c .before .is-standing .ensures) ∙ c .if1 .taken)
 
--- src/lib.rt:148:1
 returns-3 : tie.Need-returns-3
-returns-3 c = ?
+returns-3 c =
+    let s = c .before .before .before in
+    let e = s .s .given .1 in
+    stretch-off _ _ _ _ (rw e at (s .before .before .neighbour-of .ensures)) (sym (c .before .is-standing .ensures) ∙ c .if1 .left)
 
 pub stretch-from-spec : {M : Type 1} → statement M
 stretch-from-spec =
