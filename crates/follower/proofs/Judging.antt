@@ -1,13 +1,15 @@
 -- The follower's answer from one node to the next, by the code's numbers.
 -- Assumes nothing.
 use mathlib.Core.Path.{_≡_, refl, sym, ap, _∙_}
-use mathlib.Core.Bool.{cond}
+use mathlib.Core.Bool.{true, false, cond, true≢false}
 use mathlib.Core.List.{List}
 use mathlib.Core.Option.{Option, none, some}
 use Prim.Native.Nat.{ℕ, zero, suc, _+_, _*_, _≤_}
 use native.Mathlib.Numerals.{add-one}
 use native.Mathlib.Omega.{arith}
+use borrow.Author.Tests.{eq-eqb, ne-eqb}
 use lib.Dec.{eqb}
+use Rattle.array.proofs.Bools.{by-eq}
 use Rattle.array.specs.Place.{position}
 use Rattle.array.specs.Map.{faulty}
 use Rattle.track.specs.Ports as track
@@ -37,6 +39,13 @@ pub out-side : (side : ℕ) → side ≤ 1 → compass (1 + 2 * side) ≡ by-sid
 out-side zero h = refl
 out-side (suc zero) h = refl
 out-side (suc (suc s)) h = absurd (omega arith)
+
+-- a switch that is no fourth one may be counted
+pub not-fourth : (kind k : ℕ) → k ≤ 3 → (kind ≡ 0 → ⊥) → fourth kind k ≡ false → k + 1 ≤ 3
+not-fourth kind k l d h =
+    by-eq k 3
+    (λ e. let t : fourth kind k ≡ true = simp (ne-eqb kind 0 d, eq-eqb k 3 e) in absurd (true≢false (sym t ∙ h)))
+    (λ n. omega arith)
 
 module _ (g : List ℕ) (c k : ℕ) (p : Port) (h : Sound-port p) where
   abbrev place : ℕ

@@ -205,25 +205,32 @@ sound-processor : (b : Bool) (d : ℕ) (q : Compass) → Sound-inside (processor
 sound-processor true d q = sound-joining (fault-joins d q)
 sound-processor false d q = tt
 
+-- what is inside at a port, from what the parts of the code answer
 module _ (w : Wafer) (p : Port) (r : Inside) where
+  abbrev here : ℕ
+  here = position (p .row) (p .column)
+
+  abbrev by : Compass
+  by = compass (p .side)
+
   pub finds-processor :
       p .kind ≡ 0
-      → r ≡ processor-joins (inner-fault (w .rows) (w .columns) (w .grid) (position (p .row) (p .column)))
-          (getD (w .directions) (position (p .row) (p .column)) 0) (compass (p .side))
+      → r ≡ processor-joins (inner-fault (w .rows) (w .columns) (w .grid) here) (getD (w .directions) here 0) by
       → Finds w p r
   unfolding inside joins-nothing joined
   finds-processor k e =
-      record {
-        is = rw (e, k) (seen-processor (Processor (p .row) (p .column)) _ _ (compass (p .side)));
-        sound = rw e (sound-processor _ _ (compass (p .side)));
-      }
+      let b = inner-fault (w .rows) (w .columns) (w .grid) here in
+      let d = getD (w .directions) here 0 in
+      record { is = rw (e, k) (seen-processor (Processor (p .row) (p .column)) b d by); sound = rw e (sound-processor b d by) }
 
-  pub finds-across :
-      p .kind ≡ 1 → r ≡ joining (across-joins (getD (w .across) (position (p .row) (p .column)) 0) (compass (p .side))) → Finds w p r
+  pub finds-across : p .kind ≡ 1 → r ≡ joining (across-joins (getD (w .across) here 0) by) → Finds w p r
   unfolding inside joins-nothing joined
-  finds-across k e = record { is = rw (e, k) (seen-joining (Across (p .row) (p .column)) _); sound = rw e (sound-joining _) }
+  finds-across k e =
+      let o = across-joins (getD (w .across) here 0) by in
+      record { is = rw (e, k) (seen-joining (Across (p .row) (p .column)) o); sound = rw e (sound-joining o) }
 
-  pub finds-down :
-      p .kind ≡ 2 → r ≡ joining (down-joins (getD (w .down) (position (p .row) (p .column)) 0) (compass (p .side))) → Finds w p r
+  pub finds-down : p .kind ≡ 2 → r ≡ joining (down-joins (getD (w .down) here 0) by) → Finds w p r
   unfolding inside joins-nothing joined
-  finds-down k e = record { is = rw (e, k) (seen-joining (Down (p .row) (p .column)) _); sound = rw e (sound-joining _) }
+  finds-down k e =
+      let o = down-joins (getD (w .down) here 0) by in
+      record { is = rw (e, k) (seen-joining (Down (p .row) (p .column)) o); sound = rw e (sound-joining o) }

@@ -383,7 +383,7 @@ pub fn follow(
         last: from,
         passed: 0,
     };
-    let mut left = 7;
+    let mut left: usize = 7;
     while 0 < left {
         let s = advance(n, m, grid, directions, across, down, walk);
         match s {

@@ -1,39 +1,49 @@
+-- `follower::advance` meets its contract.
+-- Assumes nothing.
+use denote.Ref.{now}
+use Rattle.track.specs.Ports.{Wafer, stretch-from}
+use Rattle.follower.specs.Inner.{wafer, port-of}
+use Rattle.follower.proofs.Judging.{no-way, on-way}
 use borrow.Author.Needs.{needs}
 use Rattle.follower.proofs.advance.Statement.{statement}
 use Rattle.follower.proofs.advance.Tie as tie
-use Rattle.follower.proofs.advance.Reads as reads
-use Rattle.follower.proofs.advance.Lts as lts
-use Rattle.follower.proofs.enter.Reads as enter-reads
-use Rattle.follower.proofs.refuse.Reads as refuse-reads
-use Rattle.follower.proofs.stretch_from.Reads as stretch-from-reads
 
--- src/lib.rt:354:9
+abbrev of : tie.Start → Wafer
+of s = let a = s .args in wafer (a .n) (a .m) (now (a .grid)) (now (a .directions)) (now (a .across)) (now (a .down))
+
 stretch-from-requires : tie.Need-stretch-from-requires
 stretch-from-requires c κs = search needs
 
--- src/lib.rt:355:21
 enum-known-s : tie.Need-enum-known-s
 enum-known-s c = search needs
 
--- src/lib.rt:356:27
 enum-told : tie.Need-enum-told
 enum-told c = search needs
 
--- src/lib.rt:356:27
 refuse-requires : tie.Need-refuse-requires
 refuse-requires c κs = search needs
 
--- src/lib.rt:356:9
 returns : tie.Need-returns
-returns c = ?
+unfolding stretch-from
+returns c =
+    let s = c .before .before .before .before .before .before .before .before in
+    let v = s .args .walk in
+    let f = rw (c .before .enum-told .given .1) at (c .before .before .before .stretch-from .ensures) in
+    no-way (of s) (port-of (v .port)) (v .last) (v .passed) (f .is) (c .refuse .ensures)
 
--- src/lib.rt:358:5
 enter-requires : tie.Need-enter-requires
-enter-requires c κs = ?
+enter-requires c κs =
+    let s = c .before .before .before .before .before .before .before .before in
+    let f = rw (c .before .s .given .1) at (c .before .before .before .stretch-from .ensures) in
+    (s .pre .0, f .sound, s .pre .1 .few)
 
--- src/lib.rt:341:1
 returns-2 : tie.Need-returns-2
-returns-2 c = ?
+unfolding stretch-from
+returns-2 c =
+    let s = c .before .before .before .before .before .before .before .before .before in
+    let v = s .args .walk in
+    let f = rw (c .before .before .s .given .1) at (c .before .before .before .before .stretch-from .ensures) in
+    on-way (of s) (port-of (v .port)) (v .last) (v .passed) _ (f .is) (c .enter .ensures)
 
 pub advance-spec : {M : Type 1} → statement M
 advance-spec =

@@ -4,6 +4,7 @@ use mathlib.Core.Path.{sym, ap, _∙_}
 use denote.Ref.{now}
 use Prim.Native.Nat.{ℕ}
 use lib.ListN.{getD}
+use Rattle.array.specs.Place.{position}
 use Rattle.array.specs.Map.{inner-faulty}
 use Rattle.array.proofs.Marks.{mark-read}
 use Rattle.follower.specs.Inner.{compass, processor-joins}
@@ -32,10 +33,11 @@ returns : tie.Need-returns
 returns c =
     let s = c .before .before .before .before .before .before .before .before .before .before in
     let a = s .args in
+    let p = position (a .port .row) (a .port .column) in
     finds-processor _ (a .port) _ (c .before .before .before .if1 .taken)
     (c .processor-join .ensures
-    ∙ ap (λ (x : ℕ). processor-joins (inner-faulty (a .n) (a .m) _ x) (getD (now (a .directions)) _ 0) (compass (a .port .side)))
-    (sym (mark-read (now (a .grid)) _ (omega arith))))
+    ∙ ap (λ (x : ℕ). processor-joins (inner-faulty (a .n) (a .m) p x) (getD (now (a .directions)) p 0) (compass (a .port .side)))
+    (sym (mark-read (now (a .grid)) p (omega arith))))
 
 shared-slice-read-switch-join : tie.Need-shared-slice-read-switch-join
 shared-slice-read-switch-join c = search needs
