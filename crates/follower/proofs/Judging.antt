@@ -12,7 +12,6 @@ use lib.Dec.{eqb}
 use Rattle.array.proofs.Bools.{by-eq}
 use Rattle.array.specs.Place.{position}
 use Rattle.array.specs.Map.{faulty}
-use Rattle.track.specs.Ports as track
 use Rattle.track.specs.Ports.{Wafer, E, S, _at_, stretch-from}
 use Rattle.track.specs.Link.{Trail, passes, enters, unjoined-at, no-stretch, Inside, ends, on, stops, inside, run}
 use Rattle.track.specs.Follower.{position-of, port-number, by-side, refused, judged}
@@ -23,6 +22,7 @@ use Rattle.follower.specs.declared.Step.{Step}
 use Rattle.follower.specs.declared.Step.the-variants.{Done}
 use Rattle.follower.specs.Inner.{compass, node, port-of, Sound-port, fourth, Steps, passing, inside-as, entering, leaving}
 use Rattle.follower.proofs.Sides.{kinds, sides}
+use Rattle.track.specs.Ports as track
 
 -- a trail by where its first stretch leads
 abbrev stretch-as : Wafer → ℕ → Option track.Port → Trail

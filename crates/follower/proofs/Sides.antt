@@ -12,15 +12,14 @@ use lib.ListN.{getD}
 use Rattle.array.specs.Place.{position, processor-at}
 use Rattle.array.specs.Map.{inner-fault}
 use Rattle.array.proofs.Bools.{and-true, cond-taken, cond-left}
-use Rattle.track.specs.Ports as track
 use Rattle.track.specs.Ports.{Wafer, Compass, W, E, N, S, Node, Processor, Across, Down, _at_, neighbour, stands, if-stands, joins-nothing, joined, fault-joins, across-joins, down-joins, W–S·E–N, W–N·E–S}
 use Rattle.track.specs.Link.{ends, inside, joined-to}
 use Rattle.follower.specs.declared.Port.{Port}
-use Rattle.follower.specs.declared.Stretch.{Stretch}
 use Rattle.follower.specs.declared.Stretch.the-variants.{To, Nothing}
 use Rattle.follower.specs.declared.Inside.{Inside}
-use Rattle.follower.specs.declared.Inside.the-variants.{Ends, On, Stops}
-use Rattle.follower.specs.Inner.{compass, node, node-of, port-of, Sound-port, between, opposite, kind-beyond, beyond, before-all, along, Neighbours, Stretches, joining, straight-joins, switch-joins, processor-joins, seen, Sound-inside, Finds}
+use Rattle.follower.specs.declared.Inside.the-variants.{On, Stops}
+use Rattle.follower.specs.Inner.{compass, node, node-of, Sound-port, between, opposite, kind-beyond, beyond, before-all, along, Neighbours, Stretches, joining, straight-joins, switch-joins, processor-joins, seen, Sound-inside, Finds}
+use Rattle.track.specs.Ports as track
 
 -- by kind, and by side
 pub kinds : (P : ℕ → Type 0) → P 0 → P 1 → P 2 → (k : ℕ) → k ≤ 2 → P k

@@ -1,6 +1,6 @@
 -- What the inner parts of the follower promise each other: ports, stretches and joins by document 01's numbers, and a link followed
 -- from node to node. Assumes nothing.
-use Prim.Native.Nat.{ℕ, suc, _+_, _-_, _*_, _/_, _%_, _≤_, _<_}
+use Prim.Native.Nat.{ℕ, suc, _+_, _-_, _/_, _%_, _≤_}
 use mathlib.Core.Path.{_≡_}
 use mathlib.Core.Bool.{Bool, cond, not, _&&_}
 use mathlib.Core.List.{List}
@@ -9,9 +9,7 @@ use lib.Dec.{ltb, eqb}
 use lib.ListN.{length}
 use Rattle.array.specs.Place.{row, column}
 use Rattle.track.specs.Letters.{across-exists, down-exists, switch-byte}
-use Rattle.track.specs.Ports as track
 use Rattle.track.specs.Ports.{Wafer, Compass, W, E, N, S, Node, Processor, Across, Down, _at_, W–E, N–S, across-joins, down-joins, fault-joins}
-use Rattle.track.specs.Link as link
 use Rattle.track.specs.Link.{Trail, ends, on, stops, run}
 use Rattle.track.specs.Follower.{port-number, judged}
 use Rattle.track.specs.declared.Followed.{Followed}
@@ -23,6 +21,8 @@ use Rattle.follower.specs.declared.Inside.the-variants.{Ends, On, Stops}
 use Rattle.follower.specs.declared.Walk.{Walk}
 use Rattle.follower.specs.declared.Step.{Step}
 use Rattle.follower.specs.declared.Step.the-variants.{Go, Done}
+use Rattle.track.specs.Ports as track
+use Rattle.track.specs.Link as link
 
 abbrev pub wafer : ℕ → ℕ → List ℕ → List ℕ → List ℕ → List ℕ → Wafer
 wafer n m grid directions across down =

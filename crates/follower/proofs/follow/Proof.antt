@@ -2,7 +2,7 @@
 -- Assumes nothing.
 use mathlib.Core.Path.{_≡_, sym, ap, _∙_}
 use denote.Ref.{now}
-use Prim.Native.Nat.{ℕ, suc, _-_}
+use Prim.Native.Nat.{suc, _-_}
 use Rattle.track.specs.Ports.{Wafer, Compass, _at_}
 use Rattle.track.specs.Link.{run}
 use Rattle.track.specs.Follower.{processor-of, out-of, judged}
@@ -43,12 +43,13 @@ add-t17 c = omega arith
 loop-holds : tie.Need-loop-holds Inv-loop μ-loop
 loop-holds c =
     let s = c .before .before .before .before in
-    let a = s .args in
-    (record {
-      port = record { kinds = omega arith; rows = omega arith; columns = omega arith; sides = omega arith };
-      few = omega arith;
-    },
-    ap (λ (q : Compass). judged (now (a .grid)) (a .from) 0 (run (of s) 7 (processor-of (a .from) at q))) (out-side (a .side) (s .pre .2)))
+    let a = s .args in (
+      record {
+        port = record { kinds = omega arith; rows = omega arith; columns = omega arith; sides = omega arith };
+        few = omega arith;
+      },
+      ap (λ (q : Compass). judged (now (a .grid)) (a .from) 0 (run (of s) 7 (processor-of (a .from) at q))) (out-side (a .side) (s .pre .2)),
+    )
 
 advance-requires : tie.Need-advance-requires Inv-loop μ-loop
 advance-requires c κs = (c .before .before .before .before .before .before .pre .0, c .before .loop .inv .0)

@@ -1,6 +1,6 @@
 -- `follower::is_standing` meets its contract.
 -- Assumes nothing.
-use borrow.Author.Tests.{eq-eqb, ne-eqb}
+use borrow.Author.Tests.{ne-eqb}
 use Rattle.track.specs.Ports.{stands}
 use borrow.Author.Needs.{needs}
 use Rattle.follower.proofs.is_standing.Statement.{statement}

@@ -9,7 +9,6 @@ use Rattle.array.proofs.Marks.{faulty-read}
 use native.Mathlib.Omega.{arith}
 use Rattle.follower.proofs.Judging.{judged-enters}
 use borrow.Author.Needs.{needs}
-use native.Mathlib.Omega.{arith}
 use Rattle.follower.proofs.land.Statement.{statement}
 use Rattle.follower.proofs.land.Tie as tie
 

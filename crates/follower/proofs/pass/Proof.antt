@@ -4,7 +4,6 @@ use mathlib.Core.Path.{refl, sym, _∙_}
 use borrow.Author.Tests.{eq-eqb, ne-eqb}
 use Rattle.array.proofs.Bools.{cond-taken, cond-left}
 use Rattle.follower.specs.Inner.{Sound-port}
-use Rattle.follower.specs.declared.Port.{Port}
 use Rattle.follower.proofs.Judging.{judged-passes, not-fourth}
 use borrow.Author.Needs.{needs}
 use Rattle.follower.proofs.pass.Statement.{statement}

@@ -1,9 +1,7 @@
 -- `follower::switch_join` meets its contract, letter by letter.
 -- Assumes nothing.
-use mathlib.Core.Path.{_≡_, ap, _∙_}
+use mathlib.Core.Path.{ap, _∙_}
 use native.Mathlib.Omega.{arith}
-use mathlib.Core.Option.{Option}
-use Rattle.track.specs.Ports.{Compass}
 use Rattle.follower.specs.Inner.{compass, joining}
 use Rattle.follower.proofs.Sides.{Lettered, lettered, turns}
 use borrow.Author.Needs.{needs}
