@@ -7,14 +7,13 @@ ghost use mathlib.Core.Path.{_≡_};
 ghost use mathlib.Core.Bool.{false};
 ghost use mathlib.Core.List.{List};
 ghost use Prim.Native.Nat.{ℕ, _≤_, _<_};
-ghost use lib.Dec.{eqb};
 ghost use lib.ListN.{length};
 ghost use Rattle.array.specs.Map.{inner-faulty};
 ghost use Rattle.track.specs.Letters.{switch-byte};
 ghost use Rattle.track.specs.Ports.{Wafer, stands, fault-joins, _at_};
 ghost use Rattle.track.specs.Link.{run, enters, unjoined-at};
 ghost use Rattle.track.specs.Follower.{refused, judged, out-of, switches-test};
-ghost use Rattle.follower.specs.Inner.{wafer, Ready, compass, node, node-of, port-of, Sound-port, between, opposite, kind-beyond, beyond, before-all, along, Neighbours, Stretches, joining, straight-joins, switch-joins, processor-joins, Finds, fourth, Sound-walk, Steps, passing, entering, leaving, switches-allowed};
+ghost use Rattle.follower.specs.Inner.{wafer, Ready, compass, node, node-of, port-of, Sound-port, opposite, kind-beyond, beyond, before-all, along, Neighbours, Stretches, joining, straight-joins, switch-joins, processor-joins, Finds, fourth, Sound-walk, Steps, passing, entering, leaving, switches-allowed};
 
 // A port: of a processor (kind 0), an across switch (1) or a down switch (2), by its row and column, on a side (0 W, 1 E, 2 N, 3 S).
 pub struct Port {
