@@ -176,10 +176,10 @@ fn switch_join(kind: u8, letter: u8, side: u8) -> Inside
     ensures { λ r. ⌜ r ≡ joining (switch-joins kind letter (compass side)) ⌝ }
 {
     match letter {
-        97 => straight(2 - kind, side),
-        98 => straight(kind - 1, side),
-        99 => Inside::On(3 - side),
-        100 => Inside::On((side + 2) % 4),
+        b'a' => straight(2 - kind, side),
+        b'b' => straight(kind - 1, side),
+        b'c' => Inside::On(3 - side),
+        b'd' => Inside::On((side + 2) % 4),
         _ => Inside::Stops,
     }
 }
@@ -399,7 +399,7 @@ fn is_switch_byte(exists: bool, byte: u8) -> bool
     ensures { λ r. ⌜ r ≡ switch-byte exists byte ⌝ }
 {
     if exists {
-        (97 <= byte) & (byte <= 100)
+        (b'a' <= byte) & (byte <= b'd')
     } else {
         byte == 0
     }
