@@ -24,15 +24,15 @@ use Rattle.formats.proofs.Trip.{read-written, read-at}
 use Rattle.readers.specs.Reading.{record-at, records-at, read-file}
 use Rattle.readers.specs.Parts.{blank-mark}
 use Rattle.readers.specs.declared.Step.the-variants.{Next}
-use Rattle.readers.specs.declared.FileRead.the-variants as read
 use Rattle.readers.proofs.Cases.{blank-is, blank-length, record-marked, more-suc, none-left, size-good, head-read, whole-read}
 use Rattle.writers.specs.Writing.{buffer-test, write-file}
 use Rattle.writers.specs.Parts.{value-bytes}
 use Rattle.writers.specs.declared.FileWritten.{FileWritten}
-use Rattle.writers.specs.declared.FileWritten.the-variants as written
 use Rattle.writers.proofs.Accepted.{element-test, Passed, passed, file-refused, file-accepted, put-short, put-whole}
 use Rattle.files.specs.RoundTrip.{Round-trip}
 use Rattle.files.proofs.Elements.{Kept, kept, unkept, value-read, good-marked, along-some, along-none, count-some, count-none}
+use Rattle.readers.specs.declared.FileRead.the-variants as read
+use Rattle.writers.specs.declared.FileWritten.the-variants as written
 
 number-unchanged : (v : ℕ) (before after : List ℕ) → v < 16384
     → number-at (before ++ (bytes-of v ++ after)) (length before) ≡ Read v (length (before ++ bytes-of v))

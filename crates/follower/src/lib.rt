@@ -15,7 +15,7 @@ ghost use Rattle.track.specs.Link.{run, enters, unjoined-at};
 ghost use Rattle.track.specs.Follower.{refused, judged, out-of, switches-test};
 ghost use Rattle.follower.specs.Inner.{wafer, Ready, compass, node, node-of, port-of, Sound-port, opposite, kind-beyond, beyond, before-all, along, Neighbours, Stretches, joining, straight-joins, switch-joins, processor-joins, Finds, fourth, Sound-walk, Steps, passing, entering, leaving, switches-allowed};
 
-// A port: of a processor (kind 0), an across switch (1) or a down switch (2), by its row and column, on a side (0 W, 1 E, 2 N, 3 S).
+// A port: of a processor (kind 0), an across switch (1) or a down switch (2), by its row and column, on a side (W, E, N, S are 0 to 3).
 pub struct Port {
     pub kind: u8,
     pub row: usize,
@@ -36,7 +36,7 @@ pub enum Inside {
     Stops,
 }
 
-// A link followed so far: the port it leaves by, the last switch entered (or the cell's processor) and the number of switches passed.
+// A link followed so far: the port it goes on from, where it was last (a switch, or at first the cell's processor), and how many switches it has passed.
 pub struct Walk {
     pub port: Port,
     pub last: usize,

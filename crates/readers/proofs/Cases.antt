@@ -24,8 +24,8 @@ use Rattle.formats.specs.declared.Kind.the-variants.{Map, Plan}
 use Rattle.readers.specs.Reading.{no-record, mark-fault, mark-path, record-at, records-at, whole-file, read-file}
 use Rattle.readers.specs.Parts.{blank-mark, stands-at, value-at, is-value, marked}
 use Rattle.readers.specs.declared.Step.{Step}
-use Rattle.readers.specs.declared.Step.the-variants as step
 use Rattle.readers.specs.declared.Head.{Head}
+use Rattle.readers.specs.declared.Step.the-variants as step
 use Rattle.readers.specs.declared.FileRead.the-variants as file
 
 module _ (s : List ℕ) (at : ℕ) where

@@ -15,9 +15,9 @@ use Rattle.formats.specs.declared.Kind.{Kind}
 use Rattle.formats.specs.declared.Kind.the-variants.{Map, Plan}
 use Rattle.readers.specs.declared.Head.{Head}
 use Rattle.readers.specs.declared.Step.{Step}
-use Rattle.readers.specs.declared.Step.the-variants as step
 use Rattle.readers.specs.declared.FileRead.{FileRead}
 use Rattle.readers.specs.declared.FileRead.the-variants.{File, Refused}
+use Rattle.readers.specs.declared.Step.the-variants as step
 
 -- N, M and the count, or the refusal
 abbrev pub told : FileRead → Told

@@ -46,8 +46,8 @@ pub record Good (g : Given) : Type 0 where
   pub u32 : g .limit < 4294967296
   pub lent : all-long (g .directions ∷ g .places ∷ g .across ∷ g .down ∷ []) ≡ true
 
--- THE RUN. The planner's answer. The direction buffer that it writes goes unchanged, with the same N, M and grid, to the placement, the
--- routing and the follower, and the routing's two switch buffers go unchanged to the follower.
+-- THE RUN. Each call gets N, M and the grid; what the planner leaves in the direction buffer is handed to the three other operations, and
+-- what the routing leaves in the switch buffers to the follower.
 abbrev pub answer : Given → Answer
 answer g = plan-repair (g .n) (g .m) (g .grid) (g .directions) (g .limit)
 
@@ -127,13 +127,13 @@ pub record After-repaired (g : Given) : Type 0 where
   -- the paths are those that the trial rule finds, a plan, and the first of all plans
   pub by-rule : planned (g .n) (g .m) (g .grid) ≡ found (T-of g) (paths g)
   pub first-plan : First-plan (g .n) (g .m) (g .grid) (paths g)
-  -- placement and routing accept, and give the placement and the switch letters that document 01 defines for the paths
+  -- placement and routing accept, and their buffers hold what `track` defines for the directions
   pub placing-accepted : placing g ≡ Accepted
   pub placement-defined : places-held g ≡ placement (g .n) (g .m) (g .grid) (planned-directions g)
   pub routing-accepted : routing g ≡ Accepted
   pub across-defined : routed g .across ≡ across-letters (g .n) (g .m) (g .grid) (planned-directions g)
   pub down-defined : routed g .down ≡ down-letters (g .n) (g .m) (g .grid) (planned-directions g)
-  -- each logical cell sits on a healthy processor, and no two on the same one
+  -- every cell has a healthy processor to itself
   pub sits : (i j : ℕ) → Cell (routed g) i j
       → (processor (g .n) (g .m) (held g i j) ≡ true) × (healthy (g .grid) (held g i j) ≡ true)
   pub alone : (i j k l : ℕ) → Cell (routed g) i j → Cell (routed g) k l → held g i j ≡ held g k l → (i ≡ k) × (j ≡ l)
@@ -149,7 +149,7 @@ pub record Demand3 (g : Given) : Type 0 where
   pub spent : (answer g ≡ Planned (Spent (g .limit))) ↔ (g .limit < T-of g)
   -- otherwise the answer carries T
   pub carries-T : T-of g ≤ g .limit → (answer g ≡ Planned (Repaired (T-of g))) ⊎ (answer g ≡ Planned (Beyond (T-of g)))
-  -- and it is beyond repair exactly when every choice has a path that isn't open, a meeting or a near-miss
+  -- and it says beyond repair exactly when all choices are ruled out
   pub beyond : T-of g ≤ g .limit → (answer g ≡ Planned (Beyond (T-of g))) ↔ Every-choice-blocked (g .n) (g .m) (g .grid)
   -- in every other case it is repaired
   pub repaired : T-of g ≤ g .limit → (Every-choice-blocked (g .n) (g .m) (g .grid) → ⊥) → answer g ≡ Planned (Repaired (T-of g))

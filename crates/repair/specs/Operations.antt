@@ -1,4 +1,4 @@
--- The planner, the placement, the routing and the follower: what each answers, and every buffer afterwards, for refused calls too.
+-- The four operations of a run: what each answers, and every buffer afterwards, for refused calls too.
 -- The arguments `directions`, `places`, `across` and `down` are the buffers as they are lent. Assumes nothing.
 use Prim.Native.Nat.{ℕ}
 use mathlib.Core.List.{List, [], _∷_}

@@ -25,7 +25,7 @@ traced-paths n m grid directions = buffer (through n m (directed-faults n m grid
 abbrev pub placed-by : ℕ → ℕ → List ℕ → ℕ → ℕ
 placed-by n m traced p = cond (inner n m p) (ahead p (getD traced p 0) 1) 0
 
--- a direction with the grid transposed: east for south, west for north, and back
+-- a direction as it is in the transposed grid
 abbrev pub transposed : ℕ → ℕ
 transposed d = by-direction d 3 4 1 2 d
 

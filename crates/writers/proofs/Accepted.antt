@@ -16,7 +16,6 @@ use Rattle.array.specs.Tests.{or-else, refuse, first-in, refusal}
 use Rattle.array.specs.Map.{allowed, size-test, length-test, mark-test, map-tests}
 use Rattle.array.specs.declared.Refusal.{Refusal}
 use Rattle.array.specs.declared.Verdict.{Verdict}
-use Rattle.array.specs.declared.Verdict.the-variants as verdict
 use Rattle.array.proofs.Bools.{by-bool, or-false, and-one}
 use Rattle.array.proofs.Places.{Sized, sized}
 use Rattle.array.proofs.Verdicts.{both-accepted, accepted-not, accepted-false}
@@ -26,6 +25,7 @@ use Rattle.formats.specs.declared.Kind.{Kind}
 use Rattle.formats.specs.declared.Kind.the-variants.{Map, Plan}
 use Rattle.writers.specs.Writing.{path-test, buffer-test, room-test, put, write-file}
 use Rattle.writers.specs.declared.FileWritten.the-variants.{Length, Refused}
+use Rattle.array.specs.declared.Verdict.the-variants as verdict
 
 -- the test of one element: 3 of a map, 4 of a plan
 abbrev pub element-test : Kind → ℕ → ℕ → ℕ → ℕ → Verdict

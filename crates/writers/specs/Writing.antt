@@ -10,12 +10,12 @@ use Rattle.array.specs.Tests.{or-else, refuse-if, first-in, Told, accepts, refu
 use Rattle.array.specs.Buffer.{all-long}
 use Rattle.array.specs.Map.{size-test, length-test, map-test}
 use Rattle.array.specs.declared.Verdict.{Verdict}
-use Rattle.array.specs.declared.Verdict.the-variants as verdict
 use Rattle.formats.specs.Records.{file-bytes}
 use Rattle.formats.specs.declared.Kind.{Kind}
 use Rattle.formats.specs.declared.Kind.the-variants.{Map, Plan}
 use Rattle.writers.specs.declared.FileWritten.{FileWritten}
 use Rattle.writers.specs.declared.FileWritten.the-variants.{Length, Refused}
+use Rattle.array.specs.declared.Verdict.the-variants as verdict
 
 -- the length, or the refusal
 abbrev pub told : FileWritten → Told
