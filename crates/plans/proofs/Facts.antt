@@ -3,12 +3,12 @@
 use mathlib.Core.Path.{_≡_, sym, ap, subst, _∙_}
 use mathlib.Core.Bool.{Bool, true, false, _&&_, _||_}
 use mathlib.Core.List.{List, _++_}
-use Prim.Native.Nat.{ℕ, _<_, _≤_}
+use Prim.Native.Nat.{ℕ, _+_, _<_, _≤_}
 use native.Mathlib.Omega.{arith}
 use borrow.Author.Tests.{ltb-false, eqb-false}
 use lib.Dec.{eqb, ltb}
-use lib.ListN.{length, getD, take}
-use lib.Seq.{take-at}
+use lib.ListN.{length, getD, take, drop, length-append}
+use lib.Seq.{take-at, drop-at}
 use Rattle.array.specs.Place.{inner}
 use Rattle.array.specs.Map.{inner-faulty, inner-fault}
 use Rattle.array.proofs.Bools.{and-true, or-false}
@@ -19,12 +19,8 @@ use Rattle.array.proofs.Marks.{mark-read}
 use Rattle.paths.specs.Path.{Start}
 use Rattle.plans.specs.Faults.{faults, directions-at}
 use Rattle.plans.specs.Check.{wrong-direction, direction-test}
-use Rattle.plans.specs.Inner.{Starts, Directed}
+use Rattle.plans.specs.Inner.{Listed, Starts, Directed}
 use Rattle.plans.proofs.Pairing.{directions-length, direction-at}
-
--- the part of a buffer that holds a list
-pub listed : (out fs rest : List ℕ) (count : ℕ) → count ≡ length fs → out ≡ fs ++ rest → take count out ≡ fs
-listed out fs rest count h e = ap (take count) e ∙ take-at fs rest count (sym h)
 
 -- a direction that is not wrong at a fault
 right-at-fault : (fault : Bool) (d : ℕ) → fault ≡ true → wrong-direction fault d ≡ false → (1 ≤ d) × (d ≤ 4)
@@ -45,6 +41,20 @@ fault-hit n m grid k h = position-at (inner-faulty n m) grid k h
 pub faults-short : (n m : ℕ) (grid : List ℕ) → length (faults n m grid) ≤ length grid
 unfolding faults
 faults-short n m grid = positions-short (inner-faulty n m) grid
+
+-- a buffer whose front lists the faults
+pub listing : {n m : ℕ} {grid old new : List ℕ} {count : ℕ} → length grid ≡ 1024 → count ≡ length (faults n m grid)
+    → new ≡ faults n m grid ++ drop count old → Listed n m grid old new count
+listing {n} {m} {grid} {old} {new} {count} g c e =
+    let f = ap (take count) e ∙ take-at (faults n m grid) (drop count old) count (sym c) in
+    let l : length new ≡ length (faults n m grid) + length (drop count old) = ap length e ∙ length-append (faults n m grid) (drop count old) in
+    record {
+      front = f;
+      rest = ap (drop count) e ∙ drop-at (faults n m grid) (drop count old) count (sym c);
+      size = c ∙ sym (ap length f);
+      fits = omega arith;
+      short = omega (arith, faults-short n m grid);
+    }
 
 pub hit-inner-fault : (n m : ℕ) (grid : List ℕ) (p : ℕ) → Hit (inner-faulty n m) grid p → inner-fault n m grid p ≡ true
 hit-inner-fault n m grid p x = ap (inner-faulty n m p) (mark-read grid p (x .below)) ∙ x .passes

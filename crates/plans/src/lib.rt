@@ -3,14 +3,13 @@ use array::Refusal;
 use array::Verdict;
 ghost use mathlib.Core.Path.{_≡_};
 ghost use mathlib.Core.Bool.{true};
-ghost use mathlib.Core.List.{_++_};
 ghost use Prim.Native.Nat.{ℕ, _<_};
-ghost use lib.ListN.{length, getD, drop};
+ghost use lib.ListN.{length, getD};
 ghost use Rattle.array.specs.Map.{inner-faulty};
 ghost use Rattle.array.specs.Tests.{told};
 ghost use Rattle.plans.specs.Faults.{faults, directions-at, fault, paired, directed-faults};
 ghost use Rattle.plans.specs.Check.{wrong-direction, directions-test, open-test, opens-test, clash-test, pairs-test, paths-test, plan-tests, check-plan};
-ghost use Rattle.plans.specs.Inner.{Starts, Directed};
+ghost use Rattle.plans.specs.Inner.{Starts, Listed, Directed};
 
 // An inner fault with its position and the direction of its path.
 pub struct Fault {
@@ -29,7 +28,7 @@ pub fn wide(x: u16) -> usize
 // Writes the inner faults in row order to the front of `out`, and returns their number.
 pub fn list_faults(n: usize, m: usize, grid: &[u8], out: &mut [u16]) -> usize
     requires { ⌜ (length (now grid) ≡ 1024) × (length (now out) ≡ 1024) ⌝ }
-    ensures { λ r. ⌜ (r ≡ length (faults n m (now (grid .entry)))) × (now (out .exit) ≡ faults n m (now (grid .entry)) ++ drop r (now (out .entry))) ⌝ }
+    ensures { λ r. ⌜ Listed n m (now (grid .entry)) (now (out .entry)) (now (out .exit)) r ⌝ }
 {
     let mut count = 0;
     for p in 0..1024 {

@@ -1,36 +1,22 @@
 -- The parts of the planner put together: from the listed faults to the search, and from its outcome to the whole direction buffer.
 -- Assumes nothing.
-use Prim.Native.Nat.{ℕ, _+_, _≤_, _<_}
+use Prim.Native.Nat.{ℕ, _≤_, _<_}
 use mathlib.Core.Path.{_≡_, ap, sym, subst, _∙_}
 use mathlib.Core.Bool.{true}
-use mathlib.Core.List.{List, _++_}
+use mathlib.Core.List.{List}
 use native.Mathlib.Omega.{arith}
-use lib.ListN.{length, getD, take, length-append}
+use lib.ListN.{length, getD, take}
 use Rattle.array.specs.Place.{inner}
 use Rattle.array.proofs.Bools.{and-true}
 use Rattle.plans.specs.Faults.{faults}
-use Rattle.plans.proofs.Facts.{listed, fault-hit, faults-short}
+use Rattle.plans.specs.Inner.{Listed}
+use Rattle.plans.proofs.Facts.{fault-hit}
 use Rattle.trials.specs.declared.Outcome.{Outcome}
 use Rattle.trials.specs.Search.{searched, planned, outcome, directions-written}
 use Rattle.trials.specs.Inner.{Searchable, Holds, finished}
 use Rattle.trials.proofs.Writing.{finished-written}
 
--- the front of `out` lists the faults
-pub record Listed (n m : ℕ) (grid out : List ℕ) (count : ℕ) : Type 0 where
-  pub front : take count out ≡ faults n m grid
-  pub size : count ≡ length (take count out)
-  pub fits : count ≤ length out
-  pub short : count ≤ 1024
-
-pub listing : {n m : ℕ} {grid out : List ℕ} {count : ℕ} (rest : List ℕ) → length grid ≡ 1024
-    → (count ≡ length (faults n m grid)) × (out ≡ faults n m grid ++ rest) → Listed n m grid out count
-listing {n} {m} {grid} {out} {count} rest g e =
-    let f = listed out (faults n m grid) rest count (e .0) (e .1) in
-    let c : count ≡ length (faults n m grid) = e .0 in
-    let o : length out ≡ length (faults n m grid) + length rest = ap length (e .1) ∙ length-append (faults n m grid) rest in
-    record { front = f; size = c ∙ sym (ap length f); fits = omega arith; short = omega (arith, faults-short n m grid) }
-
-module _ {n m : ℕ} {grid out : List ℕ} {count : ℕ} (s : Listed n m grid out count) where
+module _ {n m : ℕ} {grid old out : List ℕ} {count : ℕ} (s : Listed n m grid old out count) where
   pub ready : {chosen : List ℕ} → n ≤ 30 → m ≤ 30 → length grid ≡ 1024 → length chosen ≡ 1024
       → Searchable n m grid (take count out) chosen
   ready a b g l =

@@ -6,6 +6,7 @@ use Prim.Native.Nat.{_-_}
 use Rattle.array.specs.Map.{inner-faulty}
 use Rattle.array.proofs.Filters.{Collecting, collect-start, collect-take, collect-skip, collect-list, collect-count}
 use Rattle.plans.specs.Faults.{faults}
+use Rattle.plans.proofs.Facts.{listing}
 use native.Mathlib.Omega.{arith}
 use borrow.Author.Needs.{needs}
 use Rattle.plans.proofs.list_faults.Statement.{statement}
@@ -58,7 +59,9 @@ same-length c = c .before .loop .inv .long
 
 returns : tie.Need-returns Inv-loop μ-loop
 unfolding faults
-returns c = (collect-count (c .before .loop .inv) (omega arith), collect-list (c .before .loop .inv) (omega arith))
+returns c =
+    listing (c .before .before .before .before .pre .0) (collect-count (c .before .loop .inv) (omega arith))
+    (collect-list (c .before .loop .inv) (omega arith))
 
 pub list-faults-spec : {M : Type 1} → statement M
 list-faults-spec =

@@ -4,21 +4,15 @@ use Prim.Native.Nat.{_≤_}
 use lib.ListN.{length}
 use lib.Seq.{length-take-le}
 use mathlib.Core.Path.{sym}
-use Rattle.trials.proofs.Planning.{Listed, listing, ready, starts-below, planned-end}
+use Rattle.trials.proofs.Planning.{ready, starts-below, planned-end}
 use borrow.Author.Needs.{needs}
 use native.Mathlib.Omega.{arith}
 use Rattle.trials.proofs.find_plan.Statement.{statement}
 use Rattle.trials.proofs.find_plan.Tie as tie
 
--- the faults are listed
-all-listed : (c : tie.After-list-faults)
-    → let a = c .before .before .before .before .args in
-    Listed (a .n) (a .m) (a .grid .now) (c .list-faults .last .1 .1 .1 .0) (c .list-faults .result)
-all-listed c = listing _ (c .before .before .before .before .pre .2) (c .list-faults .ensures)
-
 -- the working buffer has a place for each of them
 room : (c : tie.After-search) → c .before .before .before .before .list-faults .result ≤ length (c .search .last .1 .1 .1 .1 .0)
-room c = omega (arith, all-listed (c .before .before .before .before) .short, c .search .kept .1 .1 .1 .1 .0)
+room c = omega (arith, c .before .before .before .before .list-faults .ensures .short, c .search .kept .1 .1 .1 .1 .0)
 
 slice-aggregate-list-faults : tie.Need-slice-aggregate-list-faults
 slice-aggregate-list-faults c = search needs
@@ -27,10 +21,10 @@ list-faults-requires : tie.Need-list-faults-requires
 list-faults-requires c κs = search needs
 
 array-share-prefix-starts : tie.Need-array-share-prefix-starts
-array-share-prefix-starts c = all-listed (c .before) .fits
+array-share-prefix-starts c = c .before .list-faults .ensures .fits
 
 slice-aggregate-search : tie.Need-slice-aggregate-search
-slice-aggregate-search c = all-listed (c .before .before) .size
+slice-aggregate-search c = c .before .before .list-faults .ensures .size
 
 slice-aggregate-search-2 : tie.Need-slice-aggregate-search-2
 slice-aggregate-search-2 c = search needs
@@ -38,13 +32,13 @@ slice-aggregate-search-2 c = search needs
 search-requires : tie.Need-search-requires
 search-requires c κs =
     let s = c .before .before .before .before .before .before .before in
-    ready (all-listed (c .before .before .before)) (s .pre .0) (s .pre .1) (s .pre .2) (omega arith)
+    ready (c .before .before .before .list-faults .ensures) (s .pre .0) (s .pre .1) (s .pre .2) (omega arith)
 
 array-share-prefix-starts-2 : tie.Need-array-share-prefix-starts-2
-array-share-prefix-starts-2 c = all-listed (c .before .before .before .before .before) .fits
+array-share-prefix-starts-2 c = c .before .before .before .before .before .list-faults .ensures .fits
 
 slice-aggregate-write-found : tie.Need-slice-aggregate-write-found
-slice-aggregate-write-found c = all-listed (c .before .before .before .before .before .before) .size
+slice-aggregate-write-found c = c .before .before .before .before .before .before .list-faults .ensures .size
 
 array-share-prefix-chosen : tie.Need-array-share-prefix-chosen
 array-share-prefix-chosen c = room (c .before .before)
@@ -57,7 +51,7 @@ write-found-requires c κs =
     let q = c .before .before .before .before in
     let f = q .before .before .before .before in
     let s = f .before .before .before .before in
-    let l = all-listed f in
+    let l = f .list-faults .ensures in
     let e = length-take-le (f .list-faults .result) (q .search .last .1 .1 .1 .1 .0) (room q) in
     (s .pre .3, omega (arith, l .size, e), starts-below l (s .pre .2))
 
@@ -67,7 +61,7 @@ same-length c = search needs
 returns : tie.Need-returns
 returns c =
     let q = c .before .before .before .before .before .before .before in
-    planned-end (all-listed (q .before .before .before .before)) _ _ _ _ (q .search .ensures .0) (q .search .ensures .1) (c .before .before .write-found .ensures)
+    planned-end (q .before .before .before .before .list-faults .ensures) _ _ _ _ (q .search .ensures .0) (q .search .ensures .1) (c .before .before .write-found .ensures)
 
 pub find-plan-spec : {M : Type 1} → statement M
 find-plan-spec =
