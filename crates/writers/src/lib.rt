@@ -40,7 +40,7 @@ fn check_paths(n: usize, m: usize, directions: &[u8]) -> Verdict
 }
 
 // Tests 1, 2 and 4 of a plan without a grid.
-fn check_plan(n: usize, m: usize, directions: &[u8]) -> Verdict
+fn check_without_grid(n: usize, m: usize, directions: &[u8]) -> Verdict
     ensures { λ r. ⌜ r ≡ buffer-test Plan n m (now (directions .entry)) ⌝ }
 {
     if !(array::is_size(n) & array::is_size(m)) {
@@ -66,7 +66,7 @@ fn check_buffer(kind: Kind, n: usize, m: usize, b: &[u8]) -> Verdict
 {
     match kind {
         Kind::Map => array::check_map(n, m, b.len() == 1024, b),
-        Kind::Plan => check_plan(n, m, b),
+        Kind::Plan => check_without_grid(n, m, b),
     }
 }
 

@@ -21,8 +21,8 @@ check-map-requires c κs = λ h. eqb-true _ _ h
 enum-told-2 : tie.Need-enum-told-2
 enum-told-2 c = search needs
 
-check-plan-requires : tie.Need-check-plan-requires
-check-plan-requires c κs = search needs
+check-without-grid-requires : tie.Need-check-without-grid-requires
+check-without-grid-requires c κs = search needs
 
 returns : tie.Need-returns
 unfolding buffer-test
@@ -32,9 +32,9 @@ returns c =
     (c .check-map .ensures ∙ ap (λ (z : Bool). map-tests (a .n) (a .m) z (now (a .b))) (sym (and-one (long (now (a .b))))))
 
 returns-2 : tie.Need-returns-2
-returns-2 c = rw (c .before .enum-told2 .given .1) (c .check-plan .ensures)
+returns-2 c = rw (c .before .enum-told2 .given .1) (c .check-without-grid .ensures)
 
 pub check-buffer-spec : {M : Type 1} → statement M
 check-buffer-spec =
     tie.close
-    (tie.spec enum-told check-map-requires enum-told-2 check-plan-requires returns returns-2)
+    (tie.spec enum-told check-map-requires enum-told-2 check-without-grid-requires returns returns-2)

@@ -1,4 +1,4 @@
--- `writers::check_plan` meets its contract: the tests in order.
+-- `writers::check_without_grid` meets its contract: the tests in order.
 -- Assumes nothing.
 use denote.Ref.{now}
 use mathlib.Core.Path.{_≡_}
@@ -8,8 +8,8 @@ use Rattle.array.proofs.Verdicts.{test-refuses, test-passes}
 use Rattle.writers.specs.Writing.{buffer-test}
 use Rattle.writers.proofs.Accepted.{short-refuses, long-passes}
 use borrow.Author.Needs.{needs}
-use Rattle.writers.proofs.check_plan.Statement.{statement}
-use Rattle.writers.proofs.check_plan.Tie as tie
+use Rattle.writers.proofs.check_without_grid.Statement.{statement}
+use Rattle.writers.proofs.check_without_grid.Tie as tie
 
 -- the first test, as the code answers it
 sizes :
@@ -44,7 +44,7 @@ returns-3 c =
     (long-passes (now (c .before .before .before .before .before .before .args .directions)) (c .before .if2 .left)
     (c .check-paths .ensures))
 
-pub check-plan-spec : {M : Type 1} → statement M
-check-plan-spec =
+pub check-without-grid-spec : {M : Type 1} → statement M
+check-without-grid-spec =
     tie.close
     (tie.spec is-size-requires is-size-requires-2 returns returns-2 check-paths-requires returns-3)
