@@ -24,11 +24,11 @@ faulty grid p = eqb (mark-at grid p) 1
 abbrev pub allowed : ℕ → ℕ → ℕ → ℕ → Bool
 allowed n m p mark = cond (processor n m p) (leb mark 1) (eqb mark 2)
 
--- 1: a size that is none; no place
+-- 1: N or M is no size; place 0
 abbrev pub size-test : ℕ → ℕ → Verdict
 size-test n m = refuse-if (not (size n && size m)) 1 0 0
 
--- 2: some lent buffer has another length; no place. `right` says that none has.
+-- 2: a lent buffer has another length; place 0. `right` says that none has.
 abbrev pub length-test : Bool → Verdict
 length-test right = refuse-if (not right) 2 0 0
 

@@ -12,7 +12,7 @@ use Rattle.array.specs.Map.{faulty}
 use Rattle.array.specs.Tests.{or-else, refuse-if}
 use Rattle.array.specs.declared.Verdict.{Verdict}
 
--- a choice by direction, numbered from 1 in the order of trials, and what stands for any other number
+-- a choice by a direction byte, 1 to 4 in this order, and what stands for any other number
 abbrev pub by-direction : {A : Type 0} → ℕ → A → A → A → A → A → A
 by-direction d south north east west other =
     cond (eqb d 1) south (cond (eqb d 2) north (cond (eqb d 3) east (cond (eqb d 4) west other)))
@@ -54,11 +54,11 @@ meet n m p d q e = share (path n m p d) (path n m q e)
 abbrev pub difference : ℕ → ℕ → ℕ
 difference a b = (a - b) + (b - a)
 
--- south from p, north from q: in neighbouring columns, and p in a higher row
+-- south from p, north from q: their columns differ by 1, and the row of p is less
 abbrev pub south-north : ℕ → ℕ → ℕ → ℕ → Bool
 south-north p d q e = (eqb d 1 && eqb e 2) && (eqb (difference (column p) (column q)) 1 && ltb (row p) (row q))
 
--- east from p, west from q: in neighbouring rows, and p in a lower column
+-- east from p, west from q: their rows differ by 1, and the column of p is less
 abbrev pub east-west : ℕ → ℕ → ℕ → ℕ → Bool
 east-west p d q e = (eqb d 3 && eqb e 4) && (eqb (difference (row p) (row q)) 1 && ltb (column p) (column q))
 

@@ -17,7 +17,7 @@ use Rattle.plans.specs.Faults.{faults, directions-at, directed-faults}
 use Rattle.plans.specs.Plan.{Plan}
 use Rattle.plans.specs.declared.Fault.{Fault}
 
--- 4: a number that is no direction, none where an inner fault is, or one where none is
+-- 4: a number above the four directions, 0 at an inner fault, or another number where no inner fault is
 abbrev pub wrong-direction : Bool → ℕ → Bool
 wrong-direction fault d = (ltb 4 d || (fault && eqb d 0)) || (not fault && not (eqb d 0))
 

@@ -17,7 +17,7 @@ pub struct Fault {
     pub direction: u8,
 }
 
-// check_plan is for callers; the other functions are its inner parts and have a `requires`.
+// check_plan is for callers; the other functions are inner parts.
 
 pub fn wide(x: u16) -> usize
     ensures { λ r. ⌜ r ≡ x ⌝ }
@@ -25,7 +25,7 @@ pub fn wide(x: u16) -> usize
     x as usize
 }
 
-// Writes the inner faults in row order to the front of `out`, and returns their number.
+// Inner part: writes the inner faults in row order to the front of `out`, and returns their number.
 pub fn list_faults(n: usize, m: usize, grid: &[u8], out: &mut [u16]) -> usize
     requires { ⌜ (length (now grid) ≡ 1024) × (length (now out) ≡ 1024) ⌝ }
     ensures { λ r. ⌜ Listed n m (now (grid .entry)) (now (out .entry)) (now (out .exit)) r ⌝ }
@@ -64,7 +64,7 @@ fn check_directions(n: usize, m: usize, grid: &[u8], directions: &[u8]) -> Verdi
     Verdict::Accepted
 }
 
-// Writes the direction at each of these positions.
+// Inner part: writes the direction at each of these positions.
 pub fn take_directions(directions: &[u8], starts: &[u16], out: &mut [u8])
     requires { ⌜ (length (now out) ≡ length (now starts)) × ((k : ℕ) → k < length (now starts) → getD (now starts) k 0 < length (now directions)) ⌝ }
     ensures { λ _. ⌜ now (out .exit) ≡ directions-at (now (directions .entry)) (now (starts .entry)) ⌝ }
@@ -186,7 +186,7 @@ fn check_faults(n: usize, m: usize, grid: &[u8], directions: &[u8]) -> Verdict
     check_within(n, m, grid, directions, &mut starts, &mut room)
 }
 
-// Tests 1 to 7, where `right` says that every lent buffer has 1,024 elements, the grid and the directions among them.
+// Inner part: tests 1 to 7, where `right` says that every lent buffer has 1,024 elements, the grid and the directions among them.
 pub fn check_tests(n: usize, m: usize, right: bool, grid: &[u8], directions: &[u8]) -> Verdict
     requires { ⌜ (right ≡ true → (length (now grid) ≡ 1024) × (length (now directions) ≡ 1024)) ⌝ }
     ensures { λ r. ⌜ r ≡ plan-tests n m right (now (grid .entry)) (now (directions .entry)) ⌝ }

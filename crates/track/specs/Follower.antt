@@ -57,9 +57,9 @@ refused k p = Refused (refusal k p 0)
 abbrev pub unless-fourth : ℕ → ℕ → Followed → Followed
 unless-fourth k p next = cond (eqb k 3) (refused 18 p) next
 
--- The answer for a run that has passed k switches, the last of them at c; c is where the cell sits while k is 0. 17, at c, where the run
--- cannot go on: no switch or stretch ahead, a port that nothing is joined to, or a faulty spare. A run of too few steps has no answer of
--- document 01's; `Enough` says that none occurs.
+-- The answer for a run that has passed k switches, the last of them at c; c is where the cell sits while k is 0. Where the
+-- run cannot go on it is 17: at c, where nothing is ahead, or a fault's port that joins nothing, or a faulty spare; at the switch itself, which
+-- was entered, where its port joins nothing. A run of too few steps has no answer of document 01's; `Enough` says that none occurs.
 unfoldable pub judged : List ℕ → ℕ → ℕ → Trail → Followed
 judged grid c k (passes i q t) =
     cond (is-switch (i .node)) (unless-fourth k (position-of (i .node)) (judged grid (position-of (i .node)) (suc k) t)) (judged grid c k t)
@@ -71,8 +71,8 @@ judged grid c k (enters i) =
 judged grid c k no-stretch = refused 17 c
 judged grid c k unfinished = refused 0 0
 
--- the answer for a cell and a side, from the first seven nodes of its link. Stretches lead from a processor only to switches, so that a fourth switch is
--- at most the seventh node entered.
+-- the answer for a cell and a side, from the first seven nodes of its link: stretches lead from a processor only to switches, so that a
+-- fourth switch is at most the seventh node entered
 unfoldable pub followed : Wafer → ℕ → ℕ → Followed
 followed w cell side = judged (w .grid) (seat-of w cell) 0 (run w 7 (out-of (seat-of w cell) side))
 

@@ -22,7 +22,7 @@ abbrev pub told : FileWritten → Told
 told (Length k) = accepts (k ∷ [])
 told (Refused r) = refuses-as r
 
--- 4 of a plan, for which there is no grid: a number that is no direction, or one where no fault can be
+-- 4 of a plan, for which there is no grid: a number above the four directions, or other than 0 where no inner processor is
 abbrev pub path-test : ℕ → ℕ → ℕ → ℕ → Verdict
 path-test n m p d = refuse-if (ltb 4 d || (not (inner n m p) && not (eqb d 0))) 4 p 0
 
