@@ -1,3 +1,4 @@
 pub mod Pairing
 pub mod Facts
 pub mod Accepts
+pub mod Tested

@@ -38,7 +38,7 @@ use Rattle.track.proofs.Theorem.{reaches, no-shared-piece}
 use Rattle.track.proofs.Seats.{sits, alone}
 use Rattle.track.proofs.Follows.{follower-own}
 use Rattle.track.proofs.Accepted.{switches-pass, placement-holds}
-use Rattle.repair.specs.Operations.{plan-repair, directions-after, place-cells, places-after, route-switches, across-after, down-after, follow-test, follow-link, answer-after, followed-after}
+use Rattle.repair.specs.Operations.{plan-repair, directions-after, place-cells, places-after, route-switches, across-after, down-after, link-tests, follow-link, answer-after, followed-after}
 use Rattle.repair.specs.Demand3.{Given, Good, answer, planned-directions, placing, places-held, routing, routed, following, paths, T-of, held, Reached, Neighbour-link, pieces-of, After-repaired, Demand3, Demand-3}
 use Rattle.repair.specs.declared.Answer.the-variants.{Planned}
 use Rattle.repair.proofs.Outcomes.{above-spent, spent-above, carried, beyond-exhausted, exhausted-beyond, repaired-found}
@@ -233,7 +233,7 @@ module _ (g : Given) (good : Good g) where
         rw (eq-eqb (length (w .across)) 1024 a, eq-eqb (length (w .down)) 1024 d)
 
     follow-accepted : (i j side : ℕ) → Cell w i j → side < 2 → following g i j side ≡ followed w (position i j) side
-    unfolding follow-link follow-test
+    unfolding follow-link link-tests
     follow-accepted i j side c h =
         ap (λ (v : Verdict). followed-after v (followed w (position i j) side))
         (accept-both (passes (w .across ∷ w .down ∷ []) switches-long)

@@ -1,3 +1,5 @@
+pub mod Cells
+pub mod Calls
 pub mod Outcomes
 pub mod Written
 pub mod Demand3

@@ -1,13 +1,14 @@
 -- The four operations of a run: what each answers, and every buffer afterwards, for refused calls too.
 -- The arguments `directions`, `places`, `across` and `down` are the buffers as they are lent. Assumes nothing.
 use Prim.Native.Nat.{ℕ}
+use mathlib.Core.Bool.{Bool}
 use mathlib.Core.List.{List, [], _∷_}
 use Rattle.array.specs.Tests.{or-else, Told, accepts, refuses-as}
-use Rattle.array.specs.Buffer.{written}
+use Rattle.array.specs.Buffer.{all-long, written}
 use Rattle.array.specs.Map.{map-test}
 use Rattle.array.specs.declared.Verdict.{Verdict}
 use Rattle.plans.specs.Faults.{faults}
-use Rattle.plans.specs.Check.{plan-test}
+use Rattle.plans.specs.Check.{plan-tests, plan-test}
 use Rattle.trials.specs.Search.{planned, outcome, directions-written}
 use Rattle.trials.specs.declared.Outcome.{Outcome}
 use Rattle.trials.specs.declared.Outcome.the-variants.{Repaired, Beyond, Spent}
@@ -68,10 +69,14 @@ down-after n m grid directions across down =
     written (route-switches n m grid directions across down) (down-letters n m grid directions) down
 
 -- follow_link: 1 to 7, 15, 16, then the link, with 17 and 18. It writes nothing.
-unfoldable pub follow-test : Wafer → ℕ → ℕ → Verdict
-follow-test w cell side =
-    or-else (plan-test (w .rows) (w .columns) (w .grid ∷ w .directions ∷ w .across ∷ w .down ∷ []) (w .grid) (w .directions))
+-- `right` says that all lent buffers are 1,024 long
+unfoldable pub link-tests : Wafer → Bool → ℕ → ℕ → Verdict
+link-tests w right cell side =
+    or-else (plan-tests (w .rows) (w .columns) right (w .grid) (w .directions))
     (or-else (cell-test w cell side) (switches-test w))
+
+abbrev pub follow-test : Wafer → ℕ → ℕ → Verdict
+follow-test w cell side = link-tests w (all-long (w .grid ∷ w .directions ∷ w .across ∷ w .down ∷ [])) cell side
 
 abbrev pub followed-after : Verdict → Followed → Followed
 followed-after verdict.Accepted f = f

@@ -119,7 +119,7 @@ fn write_found(found: Outcome, starts: &[u16], chosen: &[u8], directions: &mut [
 }
 
 // Inner part: the planner on a map that passes the tests 1 to 3. It lists the faults, searches over them, and writes the direction buffer.
-fn find_plan(n: usize, m: usize, grid: &[u8], directions: &mut [u8], limit: u32) -> Outcome
+pub fn find_plan(n: usize, m: usize, grid: &[u8], directions: &mut [u8], limit: u32) -> Outcome
     requires { ⌜ (n ≤ 30) × (m ≤ 30) × (length (now grid) ≡ 1024) × (length (now directions) ≡ 1024) ⌝ }
     ensures { λ r. ⌜ (r ≡ outcome limit (planned n m (now (grid .entry))))
         × (now (directions .exit) ≡ directions-written limit (faults n m (now (grid .entry))) (planned n m (now (grid .entry)))) ⌝ }
