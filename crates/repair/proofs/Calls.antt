@@ -19,7 +19,6 @@ use Rattle.trials.specs.declared.Outcome.{Outcome}
 use Rattle.track.specs.Ports.{Wafer}
 use Rattle.track.specs.declared.Followed.{Followed}
 use Rattle.repair.specs.Operations.{answer-after, link-tests, followed-after}
-use Rattle.repair.specs.declared.Answer.{Answer}
 use Rattle.repair.specs.declared.Answer.the-variants as answer
 use Rattle.track.specs.declared.Followed.the-variants as follow
 

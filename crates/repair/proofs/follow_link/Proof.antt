@@ -6,7 +6,6 @@ use borrow.Author.Needs.{needs}
 use borrow.Author.Tests.{ltb-true}
 use denote.Ref.{now}
 use Rattle.array.specs.Buffer.{long}
-use Rattle.array.specs.declared.Verdict.the-variants.{Accepted}
 use Rattle.array.proofs.Bools.{and-true, and-one}
 use Rattle.plans.proofs.Tested.{tested-map, tested-directions}
 use Rattle.track.specs.Follower.{told}

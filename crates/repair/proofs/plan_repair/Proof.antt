@@ -9,8 +9,6 @@ use Rattle.array.specs.Map.{map-tests}
 use Rattle.array.proofs.Bools.{and-one}
 use Rattle.array.proofs.Maps.{map-accepted}
 use Rattle.array.proofs.Verdicts.{kept-refused, written-accepted}
-use Rattle.plans.specs.Faults.{faults}
-use Rattle.trials.specs.Search.{planned, outcome, directions-written}
 use Rattle.repair.specs.Operations.{plan-repair-test, plan-repair, directions-after, told}
 use Rattle.repair.proofs.Calls.{two-long, answer-refused, answer-accepted}
 use Rattle.repair.proofs.plan_repair.Statement.{statement}

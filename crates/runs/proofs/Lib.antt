@@ -1,0 +1,5 @@
+pub mod Finding
+pub mod Counted
+pub mod Every
+pub mod Running
+pub mod Examples
