@@ -27,7 +27,8 @@ use Rattle.repair.specs.Demand3.{Given, Good, answer, planned-directions, place
 use Rattle.repair.specs.declared.Answer.{Answer}
 use Rattle.repair.specs.declared.Answer.the-variants.{Planned}
 use Rattle.repair.proofs.Demand3.{demand-3}
-use Rattle.runs.specs.Run.{run-test, unless-refused, run-answer, is-repaired, neighbour-of, arrives-at, has-neighbour, reached, links-reached, all-reached, unless-refused-count, links-found, run-links, joined, link-count}
+use Rattle.runs.specs.Run.{run-test, unless-refused, run-answer, is-repaired, neighbour-of, arrives-at, has-neighbour, reached, links-reached, all-reached, unless-refused-count, links-found, run-links, link-count}
+use Rattle.runs.proofs.LinkCount.{joined, right-links, lower-links}
 use Rattle.repair.specs.declared.Answer.the-variants as the-answer
 
 -- the arguments are as demand 3 asks
@@ -106,11 +107,14 @@ module _ (g : Given) (good : Good g) (after : After-repaired g) where
   same-length = formed (g .n) (g .m) (g .grid) (good .map) .length-is ∙ sym (tabulate-length _ 1024)
 
   all-arrive : all-reached (routed g) (places-held g) ≡ link-count (g .n) (g .m)
-  unfolding links-reached link-count
+  unfolding links-reached
   all-arrive =
+      let s = formed (g .n) (g .m) (g .grid) (good .map) .sizes in
       rw (
         same-positions (reached (routed g) (places-held g) 0) (joined (g .n) (g .m) 0) right-arrives 0 (g .grid) zeros same-length,
         same-positions (reached (routed g) (places-held g) 1) (joined (g .n) (g .m) 1) lower-arrives 0 (g .grid) zeros same-length,
+        right-links (g .n) (g .m) (s .rows-high) (s .columns-high),
+        lower-links (g .n) (g .m) (s .rows-high) (s .columns-high),
       )
 
   all-found : links-found (g .n) (g .m) (g .grid) (planned-directions g) (g .places) (g .across) (g .down) ≡ link-count (g .n) (g .m)

@@ -1,6 +1,6 @@
 -- One run: what the function that makes its calls answers, and every buffer afterwards (document 00, demand 3; document 01, end of
 -- "Placement and routing"). Assumes nothing.
-use Prim.Native.Nat.{ℕ, _+_, _*_}
+use Prim.Native.Nat.{ℕ, _+_, _-_, _*_}
 use mathlib.Core.Path.{_≡_}
 use mathlib.Core.Bool.{Bool, true, false, cond, _&&_}
 use mathlib.Core.List.{List, [], _∷_}
@@ -8,7 +8,7 @@ use lib.Dec.{ltb, leb, eqb}
 use lib.ListN.{length, getD}
 use Rattle.array.specs.Place.{row, column, inner}
 use Rattle.array.specs.Tests.{or-else}
-use Rattle.array.specs.Buffer.{written, zeros, positions-in}
+use Rattle.array.specs.Buffer.{written, positions-in}
 use Rattle.array.specs.Map.{map-test}
 use Rattle.array.specs.declared.Verdict.{Verdict}
 use Rattle.array.specs.declared.Verdict.the-variants.{Accepted}
@@ -115,12 +115,9 @@ unfoldable pub run-links : Given → ℕ
 run-links g =
     after-repaired g (links-found (g .n) (g .m) (g .grid) (planned-directions g) (g .places) (g .across) (g .down)) 0
 
--- how many links to a neighbour an N x M array has
-abbrev pub joined : ℕ → ℕ → ℕ → ℕ → ℕ → Bool
-joined n m side p mark = has-neighbour n m side p
-
-unfoldable pub link-count : ℕ → ℕ → ℕ
-link-count n m = length (positions-in (joined n m 0) zeros) + length (positions-in (joined n m 1) zeros)
+-- how many links to a neighbour an N x M array has: to the right and to the lower one
+abbrev pub link-count : ℕ → ℕ → ℕ
+link-count n m = n * (m - 1) + m * (n - 1)
 
 -- A run's result r, and its buffers afterwards: each is as defined. Where the tests pass, what demand 3 asks of the arguments holds, and
 -- demand 3 with it; after `repaired` the follower has found every link to a neighbour to reach it.
@@ -133,11 +130,3 @@ pub record Ran-as (g : Given) (r : Ran) (directions places across down : List �
   pub down-are : down ≡ run-down g
   pub demand-3 : run-test g ≡ Accepted → Good g × Demand3 g
   pub every-link : is-repaired (run-answer g) ≡ true → run-links g ≡ link-count (g .n) (g .m)
-
--- an N x M array has N(M - 1) links to a right neighbour and M(N - 1) to a lower one: examples
-pub record Link-counts : Type 0 where
-  pub one-cell : link-count 1 1 ≡ 0
-  pub one-row : link-count 1 30 ≡ 29
-  pub two-by-two : link-count 2 2 ≡ 4
-  pub three-by-five : link-count 3 5 ≡ 22
-  pub largest : link-count 30 30 ≡ 1740

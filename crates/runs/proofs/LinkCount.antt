@@ -1,0 +1,165 @@
+-- How many links to a neighbour an N x M array has: rows and columns are counted apart.
+-- Assumes nothing.
+use mathlib.Core.Path.{_≡_, refl, sym, ap, _∙_}
+use mathlib.Core.Bool.{Bool, true, false, cond, _&&_}
+use Prim.Native.Nat.{ℕ, zero, suc, _+_, _*_, _-_, _≤_, _<_}
+use native.Mathlib.Nat.{add-mul, one-mul, zero-mul, mul-comm}
+use native.Mathlib.Omega.{arith}
+use borrow.Author.Tests.{eqb-true}
+use lib.Dec.{ltb, leb, eqb}
+use lib.ListN.{length}
+use Rattle.array.specs.Place.{row, column}
+use Rattle.array.specs.Buffer.{span, positions-along, nothing-at, zeros}
+use Rattle.array.proofs.Bools.{and-true, by-bool, by-eq}
+use Rattle.runs.specs.Run.{has-neighbour}
+
+-- the positions that have a neighbour on a side, whatever their elements are
+abbrev pub joined : ℕ → ℕ → ℕ → ℕ → ℕ → Bool
+joined n m side p mark = has-neighbour n m side p
+
+-- how many of i, i + 1, .. of k numbers pass a test
+unfoldable count : (ℕ → Bool) → ℕ → ℕ → ℕ
+count t i zero = 0
+count t i (suc k) = cond (t i) 1 0 + count t (suc i) k
+
+counted : (t : ℕ → ℕ → Bool) (u : ℕ → Bool) (f : ℕ → ℕ) → ((p x : ℕ) → t p x ≡ u p) → (i k : ℕ)
+    → length (positions-along t i (span f i k)) ≡ count u i k
+unfolding positions-along span count
+counted t u f h i zero = refl
+counted t u f h i (suc k) =
+    by-bool (u i)
+    (λ e. rw (h i (f i) ∙ e, e, counted t u f h (suc i) k) (omega arith))
+    (λ e. rw (h i (f i) ∙ e, e, counted t u f h (suc i) k) (omega arith))
+
+-- so many and so many more
+count-more : (t : ℕ → Bool) (i j k : ℕ) → count t i (j + k) ≡ count t i j + count t (i + j) k
+unfolding count
+count-more t i zero k =
+    let a : 0 + k ≡ k = omega arith in
+    let b : i + 0 ≡ i = omega arith in
+    rw (a, b) (omega arith)
+count-more t i (suc j) k =
+    let a : suc j + k ≡ suc (j + k) = omega arith in
+    let b : i + suc j ≡ suc i + j = omega arith in
+    rw (a, b) (omega (arith, count-more t (suc i) j k))
+
+-- equal tests pass the same
+count-same : (t u : ℕ → Bool) (i j k : ℕ) → ((y : ℕ) → y < k → t (i + y) ≡ u (j + y)) → count t i k ≡ count u j k
+unfolding count
+count-same t u i j zero h = refl
+count-same t u i j (suc k) h =
+    let a : i + 0 ≡ i = omega arith in
+    let b : j + 0 ≡ j = omega arith in
+    let e : t i ≡ u j = rw (a, b) at (h 0 (omega arith)) in
+    let l = count-same t u (suc i) (suc j) k (λ y q.
+    let c : suc i + y ≡ i + suc y = omega arith in
+    let d : suc j + y ≡ j + suc y = omega arith in
+    rw (c, d) (h (suc y) (omega arith))) in
+    rw (e, l)
+
+none : ℕ → Bool
+none y = false
+
+count-none : (i k : ℕ) → count none i k ≡ 0
+unfolding count none
+count-none i zero = refl
+count-none i (suc k) = omega (arith, count-none (suc i) k)
+
+count-nothing : (t : ℕ → Bool) (i : ℕ) → count t i 0 ≡ 0
+unfolding count
+count-nothing t i = refl
+
+count-one : (t : ℕ → Bool) (i : ℕ) → count t i 1 ≡ cond (t i) 1 0
+unfolding count
+count-one t i = omega arith
+
+-- The test of a position is one of its row, r, and one of its column, q.
+module _ (t r q : ℕ → Bool) (apart : (x y : ℕ) → y < 32 → t (32 * x + y) ≡ (r x && q y)) where
+  count-row : (x : ℕ) → count t (32 * x) 32 ≡ cond (r x) 1 0 * count q 0 32
+  unfolding none
+  count-row x =
+      by-bool (r x)
+      (λ e. rw e (count-same t q (32 * x) 0 32 (λ y l. let z : 0 + y ≡ y = omega arith in rw z (apart x y l ∙ rw e)) ∙ sym (one-mul (count q 0 32))))
+      (λ e. rw e (count-same t none (32 * x) 0 32 (λ y l. apart x y l ∙ rw e) ∙ count-none 0 32 ∙ sym (zero-mul (count q 0 32))))
+
+  count-rows : (k : ℕ) → count t 0 (32 * k) ≡ count r 0 k * count q 0 32
+  count-rows zero =
+      let z : 32 * 0 ≡ 0 = refl in
+      rw (z, count-nothing t 0, count-nothing r 0) (sym (zero-mul (count q 0 32)))
+  count-rows (suc k) =
+      let a : 32 * suc k ≡ 32 * k + 32 = omega arith in
+      let b : suc k ≡ k + 1 = omega arith in
+      let c : 0 + 32 * k ≡ 32 * k = omega arith in
+      let d : 0 + k ≡ k = omega arith in
+      let one-more : count r 0 k + cond (r k) 1 0 ≡ count r 0 (k + 1) =
+      ap (λ (z : ℕ). count r 0 k + z) (sym (count-one r k)) ∙ rw d at (sym (count-more r 0 k 1)) in
+      ap (λ (z : ℕ). count t 0 z) a
+      ∙ count-more t 0 (32 * k) 32
+      ∙ rw (c, count-rows k, count-row k) (sym (add-mul (count r 0 k) (cond (r k) 1 0) (count q 0 32)))
+      ∙ ap (λ (z : ℕ). z * count q 0 32) one-more
+      ∙ ap (λ (z : ℕ). count r 0 z * count q 0 32) (sym b)
+
+-- numbers below a bound that all pass a test
+unfoldable all-below : ℕ → (ℕ → Bool) → Bool
+all-below zero t = true
+all-below (suc k) t = t k && all-below k t
+
+each-below : (k : ℕ) (t : ℕ → Bool) → all-below k t ≡ true → (i : ℕ) → i < k → t i ≡ true
+unfolding all-below
+each-below zero t h i l = absurd (omega (arith, l))
+each-below (suc k) t h i l =
+    let a = and-true (t k) _ h in
+    by-eq i k (λ e. rw e (a .0)) (λ e. each-below k t (a .1) i (omega arith))
+
+-- 1 to k, and 1 to k - 1
+abbrev up-to : ℕ → ℕ → Bool
+up-to k i = leb 1 i && leb i k
+
+abbrev before : ℕ → ℕ → Bool
+before k i = up-to k i && ltb i k
+
+abbrev ranges-right : ℕ → Bool
+ranges-right k = eqb (count (up-to k) 0 32) k && eqb (count (before k) 0 32) (k - 1)
+
+ranges : all-below 31 ranges-right ≡ true
+unfolding all-below count
+ranges = refl
+
+range-of : (k : ℕ) → k ≤ 30 → (count (up-to k) 0 32 ≡ k) × (count (before k) 0 32 ≡ k - 1)
+range-of k h =
+    let a = and-true (eqb (count (up-to k) 0 32) k) _ (each-below 31 ranges-right ranges k (omega arith)) in
+    (eqb-true _ _ (a .0), eqb-true _ _ (a .1))
+
+-- the tests of a link to the right and of a link to the lower neighbour
+module _ (n m : ℕ) (h : n ≤ 30) (k : m ≤ 30) where
+  at : (x y : ℕ) → y < 32 → (row (32 * x + y) ≡ x) × (column (32 * x + y) ≡ y)
+  at x y l = (omega arith, omega arith)
+
+  and-swap : (a b c : Bool) → ((a && b) && c) ≡ ((a && c) && b)
+  and-swap true true true = refl
+  and-swap true false true = refl
+  and-swap true true false = refl
+  and-swap true false false = refl
+  and-swap false b c = refl
+
+  and-right : (a b c : Bool) → ((a && b) && c) ≡ (a && (b && c))
+  and-right true b c = refl
+  and-right false b c = refl
+
+  right-apart : (x y : ℕ) → y < 32 → has-neighbour n m 0 (32 * x + y) ≡ (up-to n x && before m y)
+  right-apart x y l = let z = at x y l in rw (z .0, z .1) (and-right (up-to n x) (up-to m y) (ltb y m))
+
+  lower-apart : (x y : ℕ) → y < 32 → has-neighbour n m 1 (32 * x + y) ≡ (before n x && up-to m y)
+  lower-apart x y l = let z = at x y l in rw (z .0, z .1) (and-swap (up-to n x) (up-to m y) (ltb x n))
+
+  pub right-links : length (positions-along (joined n m 0) 0 zeros) ≡ n * (m - 1)
+  right-links =
+      counted (joined n m 0) (has-neighbour n m 0) nothing-at (λ p x. refl) 0 1024
+      ∙ count-rows (has-neighbour n m 0) (up-to n) (before m) right-apart 32
+      ∙ rw (range-of n h .0, range-of m k .1)
+
+  pub lower-links : length (positions-along (joined n m 1) 0 zeros) ≡ m * (n - 1)
+  lower-links =
+      counted (joined n m 1) (has-neighbour n m 1) nothing-at (λ p x. refl) 0 1024
+      ∙ count-rows (has-neighbour n m 1) (before n) (up-to m) lower-apart 32
+      ∙ rw (range-of n h .1, range-of m k .0) (mul-comm (n - 1) m)
