@@ -1,0 +1,271 @@
+// The listing of a map file, as the bench program prints it: the map, the outcome, and after a repair the paths, the cells and the switches.
+use array::Refusal;
+use readers::FileRead;
+use readers::Head;
+use repair::Answer;
+use trials::Outcome;
+use writers::FileWritten;
+
+// Inner part: writes bytes at an offset, and gives the offset after them.
+fn write_bytes(out: &mut [u8], start: usize, bytes: &[u8]) -> usize {
+    let mut at = start;
+    for i in 0..bytes.len() {
+        out[at] = bytes[i];
+        at += 1;
+    }
+    at
+}
+
+// Inner part: writes the decimal digits of a number, at most `more` and one, and gives the offset after them.
+fn write_digits(out: &mut [u8], at: usize, more: usize, v: usize) -> usize {
+    if (more == 0) | (v < 10) {
+        out[at] = (48 + v % 10) as u8;
+        return at + 1;
+    }
+    let next = write_digits(out, at, more - 1, v / 10);
+    out[next] = (48 + v % 10) as u8;
+    next + 1
+}
+
+// Inner part: writes a space and a number, and gives the offset after them.
+fn write_field(out: &mut [u8], at: usize, v: usize) -> usize {
+    out[at] = 32;
+    write_digits(out, at + 1, 19, v)
+}
+
+// Inner part: writes each number after a space, and gives the offset after them.
+fn write_fields(out: &mut [u8], start: usize, values: &[usize]) -> usize {
+    let mut at = start;
+    for i in 0..values.len() {
+        at = write_field(out, at, values[i]);
+    }
+    at
+}
+
+// Inner part: writes a line of a word, numbers and an end, and gives the offset after it.
+fn write_line(out: &mut [u8], at: usize, word: &[u8], values: &[usize], end: &[u8]) -> usize {
+    let second = write_bytes(out, at, word);
+    let third = write_fields(out, second, values);
+    write_bytes(out, third, end)
+}
+
+// Inner part: the letter of a direction.
+fn direction_letter(d: u8) -> u8 {
+    match d {
+        1 => 83,
+        2 => 78,
+        3 => 69,
+        _ => 87,
+    }
+}
+
+// Inner part: writes the line of the path from p in direction d, and gives the offset after it.
+fn write_path(out: &mut [u8], at: usize, p: usize, d: u8) -> usize {
+    let values = [p / 32, p % 32];
+    let end = [32, direction_letter(d), 10];
+    write_line(out, at, b"path", &values, &end)
+}
+
+// Inner part: writes the line of the cell of p, which sits at q, and gives the offset after it.
+fn write_cell(out: &mut [u8], at: usize, p: usize, q: usize) -> usize {
+    let values = [p / 32, p % 32, q / 32, q % 32];
+    write_line(out, at, b"cell", &values, b"\n")
+}
+
+// Inner part: writes the path at p where an inner fault is, and gives the offset after it.
+fn write_fault(out: &mut [u8], at: usize, n: usize, m: usize, p: usize, mark: u8, d: u8) -> usize {
+    if array::is_inner(n, m, p) & (mark == 1) {
+        return write_path(out, at, p, d);
+    }
+    at
+}
+
+// Inner part: writes the cell of p where p is inner, and gives the offset after it.
+fn write_seat(out: &mut [u8], at: usize, n: usize, m: usize, p: usize, q: u16) -> usize {
+    if array::is_inner(n, m, p) {
+        return write_cell(out, at, p, plans::wide(q));
+    }
+    at
+}
+
+// Inner part: writes the letter of a switch where there is one, and gives the offset after it.
+fn write_letter(out: &mut [u8], at: usize, letter: u8) -> usize {
+    if letter != 0 {
+        out[at] = letter;
+        return at + 1;
+    }
+    at
+}
+
+// Inner part: writes the path of each inner fault in row order, and gives the offset after them.
+fn write_paths(out: &mut [u8], start: usize, n: usize, m: usize, grid: &[u8], directions: &[u8]) -> usize {
+    let mut at = start;
+    for p in 0..1024 {
+        at = write_fault(out, at, n, m, p, grid[p], directions[p]);
+    }
+    at
+}
+
+// Inner part: writes each cell in row order, and gives the offset after them.
+fn write_cells(out: &mut [u8], start: usize, n: usize, m: usize, places: &[u16]) -> usize {
+    let mut at = start;
+    for p in 0..1024 {
+        at = write_seat(out, at, n, m, p, places[p]);
+    }
+    at
+}
+
+// Inner part: writes the letters of a switch buffer by position, and gives the offset after them.
+fn write_letters(out: &mut [u8], start: usize, switches: &[u8]) -> usize {
+    let mut at = start;
+    for p in 0..1024 {
+        at = write_letter(out, at, switches[p]);
+    }
+    at
+}
+
+// Inner part: writes a line of a word and the letters of a switch buffer, and gives the offset after it.
+fn write_switches(out: &mut [u8], at: usize, word: &[u8], switches: &[u8]) -> usize {
+    let second = write_bytes(out, at, word);
+    let third = write_letters(out, second, switches);
+    write_bytes(out, third, b"\n")
+}
+
+// Inner part: writes the lines of a plan, with its placement and its switches, and gives the offset after them.
+fn write_plan(
+    out: &mut [u8],
+    at: usize,
+    n: usize,
+    m: usize,
+    grid: &[u8],
+    directions: &[u8],
+    places: &mut [u16],
+    across: &mut [u8],
+    down: &mut [u8],
+) -> usize {
+    repair::place_cells(n, m, grid, directions, places);
+    repair::route_switches(n, m, grid, directions, across, down);
+    let second = write_paths(out, at, n, m, grid, directions);
+    let third = write_cells(out, second, n, m, places);
+    let fourth = write_switches(out, third, b"across ", across);
+    write_switches(out, fourth, b"down ", down)
+}
+
+// Inner part: writes a line of a word and a number, and gives the offset after it.
+fn write_count(out: &mut [u8], at: usize, word: &[u8], t: u32) -> usize {
+    let values = [t as usize];
+    write_line(out, at, word, &values, b"\n")
+}
+
+// Inner part: writes the outcome and what follows it, and gives the offset after them.
+fn write_outcome(
+    out: &mut [u8],
+    at: usize,
+    o: Outcome,
+    n: usize,
+    m: usize,
+    grid: &[u8],
+    directions: &[u8],
+    places: &mut [u16],
+    across: &mut [u8],
+    down: &mut [u8],
+) -> usize {
+    match o {
+        Outcome::Repaired(t) => {
+            let second = write_count(out, at, b"repaired", t);
+            write_plan(
+                out, second, n, m, grid, directions, places, across, down,
+            )
+        }
+        Outcome::Beyond(t) => write_count(out, at, b"beyond", t),
+        Outcome::Spent(t) => write_count(out, at, b"spent", t),
+    }
+}
+
+// Inner part: writes the line of a refusal, and gives the offset after it.
+fn write_refusal(out: &mut [u8], r: Refusal) -> usize {
+    let values = [r.number as usize, r.place];
+    write_line(out, 0, b"refused", &values, b"\n")
+}
+
+// Inner part: writes the line of a map, and gives the offset after it.
+fn write_head(out: &mut [u8], head: Head) -> usize {
+    let values = [head.rows, head.columns, head.count];
+    write_line(out, 0, b"map", &values, b"\n")
+}
+
+// Inner part: writes the listing of a map that was read, and gives its length.
+fn write_map(
+    out: &mut [u8],
+    head: Head,
+    grid: &[u8],
+    directions: &mut [u8],
+    places: &mut [u16],
+    across: &mut [u8],
+    down: &mut [u8],
+) -> usize {
+    let n = head.rows;
+    let m = head.columns;
+    match repair::plan_repair(n, m, grid, directions, 1000000) {
+        Answer::Planned(o) => {
+            let second = write_head(out, head);
+            write_outcome(
+                out, second, o, n, m, grid, directions, places, across, down,
+            )
+        }
+        Answer::Refused(r) => write_refusal(out, r),
+    }
+}
+
+// Inner part: writes the listing of a map file over blank buffers, and gives its length.
+fn write_file(
+    out: &mut [u8],
+    s: &[u8],
+    grid: &mut [u8],
+    directions: &mut [u8],
+    places: &mut [u16],
+    across: &mut [u8],
+    down: &mut [u8],
+) -> usize {
+    match readers::read_map(s, grid) {
+        FileRead::File(head) => write_map(out, head, grid, directions, places, across, down),
+        FileRead::Refused(r) => write_refusal(out, r),
+    }
+}
+
+// Inner part: writes the listing of a map file, and gives its length.
+fn write_listing(out: &mut [u8], s: &[u8]) -> usize {
+    let mut grid = [0u8; 1024];
+    let mut directions = [0u8; 1024];
+    let mut places = [0u16; 1024];
+    let mut across = [0u8; 1024];
+    let mut down = [0u8; 1024];
+    write_file(
+        out,
+        s,
+        &mut grid,
+        &mut directions,
+        &mut places,
+        &mut across,
+        &mut down,
+    )
+}
+
+// Inner part: fills `out` with the listing, over room for it.
+fn report_within(s: &[u8], text: &mut [u8], out: &mut [u8]) -> FileWritten {
+    let needed = write_listing(text, s);
+    if out.len() < needed {
+        return FileWritten::Refused(Refusal {
+            number: 14,
+            place: needed,
+            second: 0,
+        });
+    }
+    FileWritten::Length(write_bytes(out, 0, &text[..needed]))
+}
+
+// Fills `out` with the listing of a map file, and answers its length.
+pub fn report(s: &[u8], out: &mut [u8]) -> FileWritten {
+    let mut text = [0u8; 32768];
+    report_within(s, &mut text, out)
+}
