@@ -1,49 +1,50 @@
+-- `listing::write_bytes` meets its contract: the bytes not yet passed are left to write.
+-- Assumes nothing.
+use denote.Ref.{now}
+use Prim.Native.Nat.{_-_, _≤_}
+use lib.ListN.{length, drop}
+use native.Mathlib.Omega.{arith}
+use mathlib.Core.Path.{_≡_, refl}
+use borrow.Author.Needs.{needs}
+use Rattle.writers.proofs.Runs.{Run, run-start, run-room, run-step, run-end}
+use Rattle.listing.proofs.Along.{list-turn, list-end}
 use Rattle.listing.proofs.write_bytes.Statement.{statement}
 use Rattle.listing.proofs.write_bytes.Tie as tie
-use Rattle.listing.proofs.write_bytes.Reads as reads
-use Rattle.listing.proofs.write_bytes.Lts as lts
 
 abbrev Inv-loop : tie.InvT-loop
-Inv-loop out₀ start bytes at₀ i₀ i-end out at i = ?
+Inv-loop out₀ start bytes at₀ i₀ i-end out at i = (i ≤ length bytes) × (i-end ≡ length bytes) × Run out₀ start bytes out at (drop i bytes)
 
 abbrev μ-loop : tie.MeasureT-loop
-μ-loop out₀ start bytes at₀ i₀ i-end out at i = ?
+μ-loop out₀ start bytes at₀ i₀ i-end out at i = length bytes - i
 
--- src/lib.rt:25:5
 loop-holds : tie.Need-loop-holds Inv-loop μ-loop
-loop-holds c = ?
+loop-holds c = (omega arith, refl, run-start _ _ _ (c .pre))
 
--- src/lib.rt:26:19
 shared-slice-read-out : tie.Need-shared-slice-read-out Inv-loop μ-loop
-shared-slice-read-out c = ?
+shared-slice-read-out c = omega arith
 
--- src/lib.rt:26:9
 slice-write-out : tie.Need-slice-write-out Inv-loop μ-loop
-slice-write-out c = ?
+slice-write-out c =     let r = run-room (c .before .before .loop .inv .2) (list-turn (now (c .before .before .before .args .bytes)) (c .before .before .loop .i) (omega arith)) in
+    omega arith
 
--- src/lib.rt:27:9
 add-at : tie.Need-add-at Inv-loop μ-loop
-add-at c = ?
+add-at c =     let r = run-room (c .before .before .loop .inv .2) (list-turn (now (c .before .before .before .args .bytes)) (c .before .before .loop .i) (omega arith)) in
+    search needs
 
--- src/lib.rt:25:9
 add-i : tie.Need-add-i Inv-loop μ-loop
-add-i c = ?
+add-i c = search needs
 
--- src/lib.rt:25:5
 loop-less : tie.Need-loop-less Inv-loop μ-loop
-loop-less c = ?
+loop-less c = omega arith
 
--- src/lib.rt:25:5
 loop-again : tie.Need-loop-again Inv-loop μ-loop
-loop-again c = ?
+loop-again c =     (omega arith, c .before .before .loop .inv .1, run-step (c .before .before .loop .inv .2) (list-turn (now (c .before .before .before .args .bytes)) (c .before .before .loop .i) (omega arith)) refl refl)
 
--- src/lib.rt:20:1
 same-length : tie.Need-same-length Inv-loop μ-loop
-same-length c = ?
+same-length c = c .before .loop .inv .2 .long
 
--- src/lib.rt:20:1
 returns : tie.Need-returns Inv-loop μ-loop
-returns c = ?
+returns c = run-end (c .before .loop .inv .2) (list-end (now (c .before .before .args .bytes)) (c .before .loop .i) (omega arith))
 
 pub write-bytes-spec : {M : Type 1} → statement M
 write-bytes-spec =
