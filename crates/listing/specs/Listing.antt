@@ -48,17 +48,45 @@ line word values end = word ++ (along field 0 values ++ end)
 abbrev pub newline : List ℕ
 newline = 10 ∷ []
 
+-- the words that lines begin with, in ASCII; the last two end with a space
+abbrev pub map-word : List ℕ
+map-word = 109 ∷ 97 ∷ 112 ∷ []
+
+abbrev pub repaired-word : List ℕ
+repaired-word = 114 ∷ 101 ∷ 112 ∷ 97 ∷ 105 ∷ 114 ∷ 101 ∷ 100 ∷ []
+
+abbrev pub beyond-word : List ℕ
+beyond-word = 98 ∷ 101 ∷ 121 ∷ 111 ∷ 110 ∷ 100 ∷ []
+
+abbrev pub spent-word : List ℕ
+spent-word = 115 ∷ 112 ∷ 101 ∷ 110 ∷ 116 ∷ []
+
+abbrev pub refused-word : List ℕ
+refused-word = 114 ∷ 101 ∷ 102 ∷ 117 ∷ 115 ∷ 101 ∷ 100 ∷ []
+
+abbrev pub path-word : List ℕ
+path-word = 112 ∷ 97 ∷ 116 ∷ 104 ∷ []
+
+abbrev pub cell-word : List ℕ
+cell-word = 99 ∷ 101 ∷ 108 ∷ 108 ∷ []
+
+abbrev pub across-word : List ℕ
+across-word = 97 ∷ 99 ∷ 114 ∷ 111 ∷ 115 ∷ 115 ∷ 32 ∷ []
+
+abbrev pub down-word : List ℕ
+down-word = 100 ∷ 111 ∷ 119 ∷ 110 ∷ 32 ∷ []
+
 -- S, N, E or W
 abbrev pub direction-letter : ℕ → ℕ
 direction-letter d = by-direction d 83 78 69 87 32
 
 -- "path", row, column, direction letter
 unfoldable pub path-line : ℕ → ℕ → List ℕ
-path-line p d = line (112 ∷ 97 ∷ 116 ∷ 104 ∷ []) (row p ∷ column p ∷ []) (32 ∷ direction-letter d ∷ 10 ∷ [])
+path-line p d = line path-word (row p ∷ column p ∷ []) (32 ∷ direction-letter d ∷ 10 ∷ [])
 
 -- "cell", i, j, and the row and the column of the position q that holds the cell
 unfoldable pub cell-line : ℕ → ℕ → List ℕ
-cell-line p q = line (99 ∷ 101 ∷ 108 ∷ 108 ∷ []) (row p ∷ column p ∷ row q ∷ column q ∷ []) newline
+cell-line p q = line cell-word (row p ∷ column p ∷ row q ∷ column q ∷ []) newline
 
 -- of a position, by its mark in the grid: its path where it is an inner fault
 abbrev pub fault-bytes : ℕ → ℕ → List ℕ → ℕ → ℕ → List ℕ
@@ -76,28 +104,34 @@ letter-bytes p v = cond (eqb v 0) [] (v ∷ [])
 unfoldable pub switch-line : List ℕ → List ℕ → List ℕ
 switch-line word switches = word ++ (along letter-bytes 0 switches ++ newline)
 
--- the paths and the cells in row order, then the switches: "across ", "down "
-unfoldable pub plan-lines : ℕ → ℕ → List ℕ → List ℕ → List ℕ
-plan-lines n m grid directions =
+-- the lines of a plan, by its buffers: the paths and the cells in row order, then "across " and "down " with their switches
+unfoldable pub plan-lines : ℕ → ℕ → List ℕ → List ℕ → List ℕ → List ℕ → List ℕ → List ℕ
+plan-lines n m grid directions places across down =
     along (fault-bytes n m directions) 0 grid
-    ++ (along (seat-bytes n m) 0 (places-after n m grid directions zeros)
-    ++ (switch-line (97 ∷ 99 ∷ 114 ∷ 111 ∷ 115 ∷ 115 ∷ 32 ∷ []) (across-after n m grid directions zeros zeros)
-    ++ switch-line (100 ∷ 111 ∷ 119 ∷ 110 ∷ 32 ∷ []) (down-after n m grid directions zeros zeros)))
+    ++ (along (seat-bytes n m) 0 places
+    ++ (switch-line across-word across
+    ++ switch-line down-word down))
+
+-- the same with the plan's placement and switches, for which blank buffers are lent
+unfoldable pub repair-lines : ℕ → ℕ → List ℕ → List ℕ → List ℕ
+repair-lines n m grid directions =
+    plan-lines n m grid directions (places-after n m grid directions zeros) (across-after n m grid directions zeros zeros)
+    (down-after n m grid directions zeros zeros)
 
 -- "repaired" with what follows, "beyond" or "spent"
 unfoldable pub outcome-lines : ℕ → ℕ → List ℕ → List ℕ → Outcome → List ℕ
 outcome-lines n m grid directions (Repaired t) =
-    line (114 ∷ 101 ∷ 112 ∷ 97 ∷ 105 ∷ 114 ∷ 101 ∷ 100 ∷ []) (t ∷ []) newline ++ plan-lines n m grid directions
-outcome-lines n m grid directions (Beyond t) = line (98 ∷ 101 ∷ 121 ∷ 111 ∷ 110 ∷ 100 ∷ []) (t ∷ []) newline
-outcome-lines n m grid directions (Spent limit) = line (115 ∷ 112 ∷ 101 ∷ 110 ∷ 116 ∷ []) (limit ∷ []) newline
+    line repaired-word (t ∷ []) newline ++ repair-lines n m grid directions
+outcome-lines n m grid directions (Beyond t) = line beyond-word (t ∷ []) newline
+outcome-lines n m grid directions (Spent limit) = line spent-word (limit ∷ []) newline
 
 -- "refused", number, place
 unfoldable pub refusal-line : Refusal → List ℕ
-refusal-line r = line (114 ∷ 101 ∷ 102 ∷ 117 ∷ 115 ∷ 101 ∷ 100 ∷ []) (r .number ∷ r .place ∷ []) newline
+refusal-line r = line refused-word (r .number ∷ r .place ∷ []) newline
 
 -- "map", N, M, all faults
 unfoldable pub head-line : Head → List ℕ
-head-line head = line (109 ∷ 97 ∷ 112 ∷ []) (head .rows ∷ head .columns ∷ head .count ∷ []) newline
+head-line head = line map-word (head .rows ∷ head .columns ∷ head .count ∷ []) newline
 
 -- the limit of the trials
 abbrev pub limit : ℕ

@@ -14,6 +14,14 @@ Room out at bytes = at + length bytes ≤ length out
 abbrev pub Wrote : List ℕ → ℕ → List ℕ → ℕ → List ℕ → Type 0
 Wrote old at bytes next new = (next ≡ at + length bytes) × (new ≡ sets old at bytes)
 
+-- the buffers of a plan are all 1,024 long
+pub record Long (grid directions places across down : List ℕ) : Type 0 where
+  pub grid-long : length grid ≡ 1024
+  pub directions-long : length directions ≡ 1024
+  pub places-long : length places ≡ 1024
+  pub across-long : length across ≡ 1024
+  pub down-long : length down ≡ 1024
+
 -- a map's grid and directions, and blank buffers for its placement and its switches
 pub record Lent (grid directions places across down : List ℕ) : Type 0 where
   pub grid-long : length grid ≡ 1024

@@ -13,8 +13,8 @@ ghost use Rattle.array.specs.Buffer.{zeros};
 ghost use Rattle.array.specs.Map.{inner-faulty};
 ghost use Rattle.repair.specs.Operations.{plan-repair};
 ghost use Rattle.writers.specs.Writing.{told};
-ghost use Rattle.listing.specs.Listing.{along, digits, field, line, direction-letter, path-line, cell-line, fault-bytes, seat-bytes, letter-bytes, switch-line, plan-lines, outcome-lines, refusal-line, head-line, limit, map-lines, listing, reported};
-ghost use Rattle.listing.specs.Parts.{Room, Wrote, Lent};
+ghost use Rattle.listing.specs.Listing.{along, digits, field, line, direction-letter, path-line, cell-line, fault-bytes, seat-bytes, letter-bytes, switch-line, plan-lines, repair-lines, outcome-lines, refusal-line, head-line, limit, map-lines, listing, reported};
+ghost use Rattle.listing.specs.Parts.{Room, Wrote, Long, Lent};
 
 // Inner part: writes bytes at an offset, and gives the offset after them.
 fn write_bytes(out: &mut [u8], start: usize, bytes: &[u8]) -> usize
@@ -186,8 +186,29 @@ fn write_switches(out: &mut [u8], at: usize, word: &[u8], switches: &[u8]) -> us
     write_bytes(out, third, b"\n")
 }
 
-// Inner part: writes the lines of a plan, with its placement and its switches, and gives the offset after them.
+// Inner part: writes the lines of a plan, by its buffers, and gives the offset after them.
 fn write_plan(
+    out: &mut [u8],
+    at: usize,
+    n: usize,
+    m: usize,
+    grid: &[u8],
+    directions: &[u8],
+    places: &[u16],
+    across: &[u8],
+    down: &[u8],
+) -> usize
+    requires { ⌜ Long (now grid) (now directions) (now places) (now across) (now down) × Room (now out) at (plan-lines n m (now grid) (now directions) (now places) (now across) (now down)) ⌝ }
+    ensures { λ r. ⌜ Wrote (now (out .entry)) at (plan-lines n m (now (grid .entry)) (now (directions .entry)) (now (places .entry)) (now (across .entry)) (now (down .entry))) r (now (out .exit)) ⌝ }
+{
+    let second = write_paths(out, at, n, m, grid, directions);
+    let third = write_cells(out, second, n, m, places);
+    let fourth = write_switches(out, third, b"across ", across);
+    write_switches(out, fourth, b"down ", down)
+}
+
+// Inner part: fills the placement and the switches of a plan, writes its lines, and gives the offset after them.
+fn write_repair(
     out: &mut [u8],
     at: usize,
     n: usize,
@@ -198,15 +219,12 @@ fn write_plan(
     across: &mut [u8],
     down: &mut [u8],
 ) -> usize
-    requires { ⌜ Lent (now grid) (now directions) (now places) (now across) (now down) × Room (now out) at (plan-lines n m (now grid) (now directions)) ⌝ }
-    ensures { λ r. ⌜ Wrote (now (out .entry)) at (plan-lines n m (now (grid .entry)) (now (directions .entry))) r (now (out .exit)) ⌝ }
+    requires { ⌜ Lent (now grid) (now directions) (now places) (now across) (now down) × Room (now out) at (repair-lines n m (now grid) (now directions)) ⌝ }
+    ensures { λ r. ⌜ Wrote (now (out .entry)) at (repair-lines n m (now (grid .entry)) (now (directions .entry))) r (now (out .exit)) ⌝ }
 {
     repair::place_cells(n, m, grid, directions, places);
     repair::route_switches(n, m, grid, directions, across, down);
-    let second = write_paths(out, at, n, m, grid, directions);
-    let third = write_cells(out, second, n, m, places);
-    let fourth = write_switches(out, third, b"across ", across);
-    write_switches(out, fourth, b"down ", down)
+    write_plan(out, at, n, m, grid, directions, places, across, down)
 }
 
 // Inner part: writes a line of a word and a number, and gives the offset after it.
@@ -237,7 +255,7 @@ fn write_outcome(
     match o {
         Outcome::Repaired(t) => {
             let second = write_count(out, at, b"repaired", t);
-            write_plan(
+            write_repair(
                 out, second, n, m, grid, directions, places, across, down,
             )
         }

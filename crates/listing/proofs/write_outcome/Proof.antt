@@ -1,86 +1,91 @@
+-- `listing::write_outcome` meets its contract, outcome by outcome.
+-- Assumes nothing.
+use denote.Ref.{now}
+use mathlib.Core.Path.{_≡_, refl}
+use mathlib.Core.List.{List}
+use Prim.Native.Nat.{ℕ}
+use Rattle.writers.proofs.Runs.{splits-all, run-start, run-room, run-step, run-end}
+use Rattle.listing.specs.Listing.{outcome-lines}
+use Rattle.listing.proofs.Cases.{outcome-repaired, outcome-beyond, outcome-spent}
 use borrow.Author.Needs.{needs}
 use Rattle.listing.proofs.write_outcome.Statement.{statement}
 use Rattle.listing.proofs.write_outcome.Tie as tie
-use Rattle.listing.proofs.write_outcome.Reads as reads
-use Rattle.listing.proofs.write_outcome.Lts as lts
-use Rattle.listing.proofs.write_count.Reads as write-count-reads
-use Rattle.listing.proofs.write_plan.Reads as write-plan-reads
 
--- src/lib.rt:238:27
 enum-known-o : tie.Need-enum-known-o
 enum-known-o c = search needs
 
--- src/lib.rt:239:47
 slice-aggregate-write-count : tie.Need-slice-aggregate-write-count
 slice-aggregate-write-count c = search needs
 
--- src/lib.rt:239:17
 write-count-requires : tie.Need-write-count-requires
-write-count-requires c κs = ?
+write-count-requires c κs =     let s = c .before .before .before .before .before .before .before .before .before .before .before in
+    let a = s .args in
+    let r = run-start (now (a .out)) (a .at) (outcome-lines (a .n) (a .m) (now (a .grid)) (now (a .directions)) (a .o)) (s .pre .1) in
+    run-room r (outcome-repaired (a .n) (a .m) (now (a .grid)) (now (a .directions)) (c .before .before .before .o .given .1))
 
--- src/lib.rt:240:13
-write-plan-requires : tie.Need-write-plan-requires
-write-plan-requires c κs = ?
+write-repair-requires : tie.Need-write-repair-requires
+write-repair-requires c κs =     let s = c .before .before .before .before .before .before .before .before .before .before .before .before .before .before .before .before .before .before in
+    let a = s .args in
+    let w = c .before .before .before .before .before .before .write-count .ensures in
+    let r = run-start (now (a .out)) (a .at) (outcome-lines (a .n) (a .m) (now (a .grid)) (now (a .directions)) (a .o)) (s .pre .1) in
+    (s .pre .0, run-room (run-step r (outcome-repaired (a .n) (a .m) (now (a .grid)) (now (a .directions)) (c .before .before .before .before .before .before .before .before .before .before .o .given .1)) (w .0) (w .1)) (splits-all _))
 
--- src/lib.rt:244:25
 enum-known-o-2 : tie.Need-enum-known-o-2
 enum-known-o-2 c = search needs
 
--- src/lib.rt:244:52
 slice-aggregate-write-count-2 : tie.Need-slice-aggregate-write-count-2
 slice-aggregate-write-count-2 c = search needs
 
--- src/lib.rt:244:31
 write-count-requires-2 : tie.Need-write-count-requires-2
-write-count-requires-2 c κs = ?
+write-count-requires-2 c κs =     let s = c .before .before .before .before .before .before .before .before .before .before .before in
+    let a = s .args in
+    rw (outcome-beyond (a .n) (a .m) (now (a .grid)) (now (a .directions)) (c .before .before .before .o2 .given .1)) at (s .pre .1)
 
--- src/lib.rt:245:24
 enum-known-o-3 : tie.Need-enum-known-o-3
 enum-known-o-3 c = search needs
 
--- src/lib.rt:245:51
 slice-aggregate-write-count-3 : tie.Need-slice-aggregate-write-count-3
 slice-aggregate-write-count-3 c = search needs
 
--- src/lib.rt:245:30
 write-count-requires-3 : tie.Need-write-count-requires-3
-write-count-requires-3 c κs = ?
+write-count-requires-3 c κs =     let s = c .before .before .before .before .before .before .before .before .before .before .before in
+    let a = s .args in
+    rw (outcome-spent (a .n) (a .m) (now (a .grid)) (now (a .directions)) (c .before .before .before .o3 .given .1)) at (s .pre .1)
 
--- src/lib.rt:222:1
 same-length : tie.Need-same-length
 same-length c = search needs
 
--- src/lib.rt:222:1
 same-length-2 : tie.Need-same-length-2
 same-length-2 c = search needs
 
--- src/lib.rt:222:1
 same-length-3 : tie.Need-same-length-3
 same-length-3 c = search needs
 
--- src/lib.rt:222:1
 same-length-4 : tie.Need-same-length-4
 same-length-4 c = search needs
 
--- src/lib.rt:222:1
 returns : tie.Need-returns
-returns c = ?
+returns c =     let s = c .before .before .before .before .before .before .before .before .before .before .before .before .before .before .before .before .before .before .before .before .before .before .before .before .before .before .before in
+    let a = s .args in
+    let w = c .before .before .before .before .before .before .before .before .before .before .before .before .before .before .before .write-count .ensures in
+    let x = c .before .before .before .before .before .before .before .before .write-repair .ensures in
+    let r = run-start (now (a .out)) (a .at) (outcome-lines (a .n) (a .m) (now (a .grid)) (now (a .directions)) (a .o)) (s .pre .1) in
+    let t = run-step r (outcome-repaired (a .n) (a .m) (now (a .grid)) (now (a .directions)) (c .before .before .before .before .before .before .before .before .before .before .before .before .before .before .before .before .before .before .before .o .given .1)) (w .0) (w .1) in
+    run-end (run-step t (splits-all _) (x .0) (x .1)) refl
 
--- src/lib.rt:222:1
 same-length-5 : tie.Need-same-length-5
 same-length-5 c = search needs
 
--- src/lib.rt:222:1
 returns-2 : tie.Need-returns-2
-returns-2 c = ?
+returns-2 c =     let a = c .before .before .before .before .before .before .before .before .before .before .before .before .before .before .args in
+    rw (outcome-beyond (a .n) (a .m) (now (a .grid)) (now (a .directions)) (c .before .before .before .before .before .before .o2 .given .1)) (c .before .before .write-count2 .ensures)
 
--- src/lib.rt:222:1
 same-length-6 : tie.Need-same-length-6
 same-length-6 c = search needs
 
--- src/lib.rt:222:1
 returns-3 : tie.Need-returns-3
-returns-3 c = ?
+returns-3 c =     let a = c .before .before .before .before .before .before .before .before .before .before .before .before .before .before .args in
+    rw (outcome-spent (a .n) (a .m) (now (a .grid)) (now (a .directions)) (c .before .before .before .before .before .before .o3 .given .1)) (c .before .before .write-count3 .ensures)
 
 pub write-outcome-spec : {M : Type 1} → statement M
 write-outcome-spec =
@@ -89,7 +94,7 @@ write-outcome-spec =
     enum-known-o
     slice-aggregate-write-count
     write-count-requires
-    write-plan-requires
+    write-repair-requires
     enum-known-o-2
     slice-aggregate-write-count-2
     write-count-requires-2

@@ -1,72 +1,73 @@
+-- `listing::write_plan` meets its contract: paths, cells, across and down, one after the other.
+-- Assumes nothing.
+use denote.Ref.{now}
+use mathlib.Core.Path.{refl}
+use mathlib.Core.List.{List}
+use Prim.Native.Nat.{ℕ}
+use Rattle.writers.proofs.Runs.{splits, splits-all, run-start, run-room, run-step, run-end}
+use Rattle.listing.specs.Listing.{plan-lines}
 use borrow.Author.Needs.{needs}
 use Rattle.listing.proofs.write_plan.Statement.{statement}
 use Rattle.listing.proofs.write_plan.Tie as tie
-use Rattle.listing.proofs.write_plan.Reads as reads
-use Rattle.listing.proofs.write_plan.Lts as lts
-use Rattle.listing.proofs.write_cells.Reads as write-cells-reads
-use Rattle.listing.proofs.write_paths.Reads as write-paths-reads
-use Rattle.listing.proofs.write_switches.Reads as write-switches-reads
-use Rattle.repair.proofs.place_cells.Reads as place-cells-reads
-use Rattle.repair.proofs.route_switches.Reads as route-switches-reads
 
--- src/lib.rt:204:5
-place-cells-requires : tie.Need-place-cells-requires
-place-cells-requires c κs = search needs
+-- what is to be written
+abbrev lines : tie.Start → List ℕ
+lines c = let a = c .args in plan-lines (a .n) (a .m) (now (a .grid)) (now (a .directions)) (now (a .places)) (now (a .across)) (now (a .down))
 
--- src/lib.rt:205:5
-route-switches-requires : tie.Need-route-switches-requires
-route-switches-requires c κs = search needs
-
--- src/lib.rt:206:9
 write-paths-requires : tie.Need-write-paths-requires
-write-paths-requires c κs = ?
+unfolding plan-lines
+write-paths-requires c κs =     let s = c .before .before .before .before .before .before .before in
+    let r = run-start (now (s .args .out)) (s .args .at) (lines s) (s .pre .1) in
+    (s .pre .0 .grid-long, s .pre .0 .directions-long, run-room r (splits _ _))
 
--- src/lib.rt:207:9
 write-cells-requires : tie.Need-write-cells-requires
-write-cells-requires c κs = ?
+unfolding plan-lines
+write-cells-requires c κs =     let s = c .before .before .before .before .before .before .before .before .before .before .before in
+    let w = c .before .before .before .write-paths .ensures in
+    let r = run-start (now (s .args .out)) (s .args .at) (lines s) (s .pre .1) in
+    (s .pre .0 .places-long, run-room (run-step r (splits _ _) (w .0) (w .1)) (splits _ _))
 
--- src/lib.rt:208:45
 slice-aggregate-write-switches : tie.Need-slice-aggregate-write-switches
 slice-aggregate-write-switches c = search needs
 
--- src/lib.rt:208:9
 write-switches-requires : tie.Need-write-switches-requires
-write-switches-requires c κs = ?
+unfolding plan-lines
+write-switches-requires c κs =     let s = c .before .before .before .before .before .before .before .before .before .before .before .before .before .before .before .before in
+    let w = c .before .before .before .before .before .before .before .before .write-paths .ensures in
+    let x = c .before .before .before .before .write-cells .ensures in
+    let r = run-start (now (s .args .out)) (s .args .at) (lines s) (s .pre .1) in
+    (s .pre .0 .across-long, run-room (run-step (run-step r (splits _ _) (w .0) (w .1)) (splits _ _) (x .0) (x .1)) (splits _ _))
 
--- src/lib.rt:209:33
 slice-aggregate-write-switches-2 : tie.Need-slice-aggregate-write-switches-2
 slice-aggregate-write-switches-2 c = search needs
 
--- src/lib.rt:209:5
 write-switches-requires-2 : tie.Need-write-switches-requires-2
-write-switches-requires-2 c κs = ?
+unfolding plan-lines
+write-switches-requires-2 c κs =     let s = c .before .before .before .before .before .before .before .before .before .before .before .before .before .before .before .before .before .before .before .before .before in
+    let w = c .before .before .before .before .before .before .before .before .before .before .before .before .before .write-paths .ensures in
+    let x = c .before .before .before .before .before .before .before .before .before .write-cells .ensures in
+    let y = c .before .before .before .before .write-switches .ensures in
+    let r = run-start (now (s .args .out)) (s .args .at) (lines s) (s .pre .1) in
+    (s .pre .0 .down-long, run-room (run-step (run-step (run-step r (splits _ _) (w .0) (w .1)) (splits _ _) (x .0) (x .1)) (splits _ _) (y .0) (y .1)) (splits-all _))
 
--- src/lib.rt:190:1
 same-length : tie.Need-same-length
 same-length c = search needs
 
--- src/lib.rt:190:1
-same-length-2 : tie.Need-same-length-2
-same-length-2 c = ?
-
--- src/lib.rt:190:1
-same-length-3 : tie.Need-same-length-3
-same-length-3 c = search needs
-
--- src/lib.rt:190:1
-same-length-4 : tie.Need-same-length-4
-same-length-4 c = search needs
-
--- src/lib.rt:190:1
 returns : tie.Need-returns
-returns c = ?
+unfolding plan-lines
+returns c =     let s = c .before .before .before .before .before .before .before .before .before .before .before .before .before .before .before .before .before .before .before .before .before .before .before .before in
+    let w = c .before .before .before .before .before .before .before .before .before .before .before .before .before .before .before .before .write-paths .ensures in
+    let x = c .before .before .before .before .before .before .before .before .before .before .before .before .write-cells .ensures in
+    let y = c .before .before .before .before .before .before .before .write-switches .ensures in
+    let z = c .before .before .write-switches2 .ensures in
+    let r = run-start (now (s .args .out)) (s .args .at) (lines s) (s .pre .1) in
+    let t = run-step (run-step (run-step r (splits _ _) (w .0) (w .1)) (splits _ _) (x .0) (x .1)) (splits _ _) (y .0) (y .1) in
+    run-end (run-step t (splits-all _) (z .0) (z .1)) refl
 
 pub write-plan-spec : {M : Type 1} → statement M
 write-plan-spec =
     tie.close
     (tie.spec
-    place-cells-requires
-    route-switches-requires
     write-paths-requires
     write-cells-requires
     slice-aggregate-write-switches
@@ -74,7 +75,4 @@ write-plan-spec =
     slice-aggregate-write-switches-2
     write-switches-requires-2
     same-length
-    same-length-2
-    same-length-3
-    same-length-4
     returns)

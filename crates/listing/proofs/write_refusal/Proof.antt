@@ -19,7 +19,7 @@ slice-aggregate-write-line-3 c = search needs
 
 write-line-requires : tie.Need-write-line-requires
 unfolding refusal-line
-write-line-requires c κs = c .before .before .before .before .before .pre
+write-line-requires c κs = c .before .before .before .before .before .before .pre
 
 same-length : tie.Need-same-length
 same-length c = search needs
