@@ -1,3 +1,5 @@
 pub mod Along
 pub mod Buffers
 pub mod Cases
+pub mod Fits
+pub mod Reports
