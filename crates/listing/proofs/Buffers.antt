@@ -8,8 +8,9 @@ use Rattle.array.specs.Buffer.{nothing-at, zeros, written}
 use Rattle.array.specs.declared.Verdict.{Verdict}
 use Rattle.array.specs.declared.Verdict.the-variants.{Accepted, Refused}
 use Rattle.array.proofs.Fills.{tabulate-length}
+use Rattle.track.specs.Placement.{placement}
 use Rattle.track.specs.Letters.{across-letters, down-letters}
-use Rattle.repair.specs.Operations.{places-after, across-after, down-after}
+use Rattle.repair.specs.Operations.{place-cells, places-after, route-switches, across-after, down-after}
 use Rattle.repair.proofs.Cells.{placement-long}
 use Rattle.listing.specs.Listing.{plan-lines, repair-lines}
 use Rattle.listing.specs.Parts.{Long, Lent}
@@ -29,15 +30,15 @@ module _ (n m : ℕ) (grid directions : List ℕ) where
 
   pub places-long : length (places-after n m grid directions zeros) ≡ 1024
   unfolding places-after
-  places-long = written-long _ _ (placement-long n m grid directions)
+  places-long = written-long (place-cells n m grid directions zeros) (placement n m grid directions) (placement-long n m grid directions)
 
   pub across-long : length (across-after n m grid directions zeros zeros) ≡ 1024
   unfolding across-after
-  across-long = written-long _ _ across-letters-long
+  across-long = written-long (route-switches n m grid directions zeros zeros) (across-letters n m grid directions) across-letters-long
 
   pub down-long : length (down-after n m grid directions zeros zeros) ≡ 1024
   unfolding down-after
-  down-long = written-long _ _ down-letters-long
+  down-long = written-long (route-switches n m grid directions zeros zeros) (down-letters n m grid directions) down-letters-long
 
   -- what the placement and the routing wrote
   module _ {places across down places′ across′ down′ : List ℕ} (l : Lent grid directions places across down)

@@ -1,8 +1,8 @@
--- The parts of the listing by the answers of the reader and of the planner.
+-- The parts of the lines, and of the listing by the answers of the reader and of the planner.
 -- Assumes nothing.
 use Prim.Native.Nat.{ℕ}
 use mathlib.Core.Path.{_≡_, refl, sym, ap, _∙_}
-use mathlib.Core.List.{List, [], _∷_}
+use mathlib.Core.List.{List, [], _∷_, _++_}
 use Rattle.array.specs.Buffer.{zeros}
 use Rattle.array.specs.declared.Refusal.{Refusal}
 use Rattle.trials.specs.declared.Outcome.{Outcome}
@@ -18,8 +18,26 @@ use Rattle.readers.specs.declared.FileRead.{FileRead}
 use Rattle.readers.specs.Reading as reading
 use Rattle.readers.proofs.Answers.{read-kept}
 use Rattle.readers.specs.declared.FileRead.the-variants as reader
-use Rattle.writers.proofs.Runs.{Splits}
-use Rattle.listing.specs.Listing.{line, newline, repaired-word, beyond-word, spent-word, repair-lines, outcome-lines, refusal-line, head-line, limit, map-lines, file-lines, listing}
+use Rattle.writers.proofs.Runs.{Splits, splits}
+use Rattle.listing.specs.Listing.{along, field, line, newline, fault-bytes, seat-bytes, letter-bytes, switch-line, plan-lines, across-word, down-word, repaired-word, beyond-word, spent-word, repair-lines, outcome-lines, refusal-line, head-line, limit, map-lines, file-lines, listing}
+
+-- the first part of a line, and of the lines of a plan
+pub line-first : (word values end : List ℕ) → Splits (line word values end) word (along field 0 values ++ end)
+unfolding line
+line-first word values end = splits word (along field 0 values ++ end)
+
+pub switch-first : (word switches : List ℕ) → Splits (switch-line word switches) word (along letter-bytes 0 switches ++ newline)
+unfolding switch-line
+switch-first word switches = splits word (along letter-bytes 0 switches ++ newline)
+
+pub plan-first :
+    (n m : ℕ) (grid directions places across down : List ℕ) →
+    Splits (plan-lines n m grid directions places across down) (along (fault-bytes n m directions) 0 grid)
+    (along (seat-bytes n m) 0 places ++ (switch-line across-word across ++ switch-line down-word down))
+unfolding plan-lines
+plan-first n m grid directions places across down =
+    splits (along (fault-bytes n m directions) 0 grid)
+    (along (seat-bytes n m) 0 places ++ (switch-line across-word across ++ switch-line down-word down))
 
 -- an outcome that is known
 module _ (n m : ℕ) (grid directions : List ℕ) {o : Outcome} {t : ℕ} where

@@ -22,7 +22,7 @@ use Rattle.array.proofs.Fills.{tabulate-at}
 use Rattle.trials.specs.declared.Outcome.{Outcome}
 use Rattle.trials.specs.declared.Outcome.the-variants.{Repaired, Beyond, Spent}
 use Rattle.track.specs.Placement.{placement}
-use Rattle.repair.specs.Operations.{plan-repair, directions-after, places-after, across-after, down-after, answer-after}
+use Rattle.repair.specs.Operations.{plan-repair, directions-after, place-cells, places-after, across-after, down-after, answer-after}
 use Rattle.repair.specs.declared.Answer.{Answer}
 use Rattle.repair.proofs.Cells.{cell-low, placement-at, seat-low}
 use Rattle.readers.specs.Reading.{read-map}
@@ -46,7 +46,7 @@ unfolding along
 along-few f z k i [] h = omega arith
 along-few f z k i (x ∷ xs) h =
     let ih = along-few f z k (suc i) xs (λ j l.
-        subst (λ (y : ℕ). Few z k y (f y (getD xs j 0))) (add-suc i j ∙ sym (suc-add i j)) (h (suc j) (omega arith))) in
+    subst (λ (y : ℕ). Few z k y (f y (getD xs j 0))) (add-suc i j ∙ sym (suc-add i j)) (h (suc j) (omega arith))) in
     let e = length-append (f i x) (along f (suc i) xs) in
     let g : Few z k i (f i x) = rw (add-zero i) at (h 0 (omega arith)) in
     let l : length (f i x) ≤ k = g .0 in
@@ -151,7 +151,7 @@ switches-short : (word switches : List ℕ) → length switches ≡ 1024 → len
 unfolding switch-line
 switches-short word switches l =
     let a : length (along letter-bytes 0 switches) ≤ 1 * (length switches - (0 - 0)) =
-        along-few letter-bytes 0 1 0 switches (λ j h. letter-few (0 + j) (getD switches j 0)) in
+    along-few letter-bytes 0 1 0 switches (λ j h. letter-few (0 + j) (getD switches j 0)) in
     omega (arith, length-append word (along letter-bytes 0 switches ++ newline), length-append (along letter-bytes 0 switches) newline)
 
 written-low : (v : Verdict) (new : List ℕ) (p : ℕ) → p < 1024 → getD new p 0 < 1024 → getD (written v new zeros) p 0 < 1024
@@ -164,13 +164,13 @@ module _ (n m : ℕ) (grid directions : List ℕ) (s : Sized n m) (l : length gr
   unfolding places-after
   place-low p h i =
       let b = seat-low n m grid directions p (cell-low n m p (s .rows-high) (s .columns-high) i) in
-      written-low _ (placement n m grid directions) p h (omega (arith, placement-at n m grid directions p h i))
+      written-low (place-cells n m grid directions zeros) (placement n m grid directions) p h (omega (arith, placement-at n m grid directions p h i))
 
   paths-short : length (along (fault-bytes n m directions) 0 grid) ≤ 12896
   paths-short =
       let a : length (along (fault-bytes n m directions) 0 grid) ≤ 13 * (length grid - (32 - 0)) =
-          along-few (fault-bytes n m directions) 32 13 0 grid
-          (λ j h. fault-few n m directions (0 + j) (getD grid j 0) (omega arith)) in
+      along-few (fault-bytes n m directions) 32 13 0 grid
+      (λ j h. fault-few n m directions (0 + j) (getD grid j 0) (omega arith)) in
       omega arith
 
   cells-short : length (along (seat-bytes n m) 0 (places-after n m grid directions zeros)) ≤ 16864
@@ -178,10 +178,10 @@ module _ (n m : ℕ) (grid directions : List ℕ) (s : Sized n m) (l : length gr
       let places : List ℕ = places-after n m grid directions zeros in
       let e : length places ≡ 1024 = places-long n m grid directions in
       let a : length (along (seat-bytes n m) 0 places) ≤ 17 * (length places - (32 - 0)) =
-          along-few (seat-bytes n m) 32 17 0 places
-          (λ j h.
-          seat-few n m (0 + j) (getD places j 0) (omega arith)
-          (λ t. place-low j (omega arith) (ap (λ (p : ℕ). inner n m p) (sym (zero-add j)) ∙ t))) in
+      along-few (seat-bytes n m) 32 17 0 places
+      (λ j h.
+      seat-few n m (0 + j) (getD places j 0) (omega arith)
+      (λ t. place-low j (omega arith) (ap (λ (p : ℕ). inner n m p) (sym (zero-add j)) ∙ t))) in
       omega arith
 
   repair-short : length (repair-lines n m grid directions) ≤ 31822
@@ -198,8 +198,8 @@ module _ (n m : ℕ) (grid directions : List ℕ) (s : Sized n m) (l : length gr
         length-append d e,
         paths-short,
         cells-short,
-        switches-short across-word _ (across-long n m grid directions),
-        switches-short down-word _ (down-long n m grid directions),
+        switches-short across-word (across-after n m grid directions zeros zeros) (across-long n m grid directions),
+        switches-short down-word (down-after n m grid directions zeros zeros) (down-long n m grid directions),
       )
 
   outcome-short : (o : Outcome) → length (outcome-lines n m grid directions o) ≤ 31900

@@ -141,7 +141,14 @@ fn write_letter(out: &mut [u8], at: usize, letter: u8) -> usize
 }
 
 // Inner part: writes the path of each inner fault in row order, and gives the offset after them.
-fn write_paths(out: &mut [u8], start: usize, n: usize, m: usize, grid: &[u8], directions: &[u8]) -> usize
+fn write_paths(
+    out: &mut [u8],
+    start: usize,
+    n: usize,
+    m: usize,
+    grid: &[u8],
+    directions: &[u8],
+) -> usize
     requires { ⌜ (length (now grid) ≡ 1024) × (length (now directions) ≡ 1024) × Room (now out) start (along (fault-bytes n m (now directions)) 0 (now grid)) ⌝ }
     ensures { λ r. ⌜ Wrote (now (out .entry)) start (along (fault-bytes n m (now (directions .entry))) 0 (now (grid .entry))) r (now (out .exit)) ⌝ }
 {
@@ -255,9 +262,7 @@ fn write_outcome(
     match o {
         Outcome::Repaired(t) => {
             let second = write_count(out, at, b"repaired", t);
-            write_repair(
-                out, second, n, m, grid, directions, places, across, down,
-            )
+            write_repair(out, second, n, m, grid, directions, places, across, down)
         }
         Outcome::Beyond(t) => write_count(out, at, b"beyond", t),
         Outcome::Spent(t) => write_count(out, at, b"spent", t),
@@ -300,9 +305,7 @@ fn write_map(
     match repair::plan_repair(n, m, grid, directions, 1000000) {
         Answer::Planned(o) => {
             let second = write_head(out, head);
-            write_outcome(
-                out, second, o, n, m, grid, directions, places, across, down,
-            )
+            write_outcome(out, second, o, n, m, grid, directions, places, across, down)
         }
         Answer::Refused(r) => write_refusal(out, r),
     }

@@ -53,13 +53,13 @@ write-digits-slice-write-out : (t : ℕ) → write-digits-lts.Need-slice-write-o
   write-digits-below t,
   write-digits.Post,
 ) (write-digits-at t) write-digits.Post
-write-digits-slice-write-out t c =     let a = c .before .before .args in digits-room (a .more) (a .v) (a .at) (now (a .out)) (c .if1 .taken) (c .before .before .pre .1)
+write-digits-slice-write-out t c = let a = c .before .before .args in digits-room (a .more) (a .v) (a .at) (now (a .out)) (c .if1 .taken) (c .before .before .pre .1)
 
 write-digits-add-result : (t : ℕ) → write-digits-lts.Need-add-result (
   write-digits-below t,
   write-digits.Post,
 ) (write-digits-at t) write-digits.Post
-write-digits-add-result t c =     let a = c .before .before .args in
+write-digits-add-result t c = let a = c .before .before .args in
     let l = digits-room (a .more) (a .v) (a .at) (now (a .out)) (c .if1 .taken) (c .before .before .pre .1) in
     search needs
 
@@ -73,7 +73,7 @@ write-digits-returns : (t : ℕ) → write-digits-lts.Need-returns (
   write-digits-below t,
   write-digits.Post,
 ) (write-digits-at t) write-digits.Post
-write-digits-returns t c =     let a = c .before .before .args in rw (digits-last (a .more) (a .v) (c .if1 .taken)) (refl, refl)
+write-digits-returns t c = let a = c .before .before .args in rw (digits-last (a .more) (a .v) (c .if1 .taken)) (refl, refl)
 
 write-digits-sub-write-digits : (t : ℕ) → write-digits-lts.Need-sub-write-digits (
   write-digits-below t,
@@ -85,7 +85,7 @@ write-digits-write-digits-requires : (t : ℕ) → write-digits-lts.Need-write-d
   write-digits-below t,
   write-digits.Post,
 ) (write-digits-at t) write-digits.Post
-write-digits-write-digits-requires t c κs =     let a = c .before .before .before .args in
+write-digits-write-digits-requires t c κs = let a = c .before .before .before .args in
     let r = run-start (now (a .out)) (a .at) (digits (a .more) (a .v)) (c .before .before .before .pre .1) in
     let e : a .more ≡ t = c .before .before .before .pre .0 in
     let l : 1 ≤ a .more = pos-of-ne-zero (eqb-false _ _ (or-false _ _ (c .before .if1 .left) .0)) in
@@ -107,7 +107,7 @@ write-digits-slice-write-out-2 : (t : ℕ) → write-digits-lts.Need-slice-write
   write-digits-below t,
   write-digits.Post,
 ) (write-digits-at t) write-digits.Post
-write-digits-slice-write-out-2 t c =     let a = c .before .before .before .before .before .before .args in
+write-digits-slice-write-out-2 t c = let a = c .before .before .before .before .before .before .args in
     let w = c .before .before .write-digits .ensures in
     let r = run-start (now (a .out)) (a .at) (digits (a .more) (a .v)) (c .before .before .before .before .before .before .pre .1) in
     let s = run-step r (digits-more (a .more) (a .v) (c .before .before .before .before .if1 .left)) (w .0) (w .1) in
@@ -118,7 +118,7 @@ write-digits-add-result-2 : (t : ℕ) → write-digits-lts.Need-add-result-2 (
   write-digits-below t,
   write-digits.Post,
 ) (write-digits-at t) write-digits.Post
-write-digits-add-result-2 t c =     let a = c .before .before .before .before .before .before .args in
+write-digits-add-result-2 t c = let a = c .before .before .before .before .before .before .args in
     let w = c .before .before .write-digits .ensures in
     let r = run-start (now (a .out)) (a .at) (digits (a .more) (a .v)) (c .before .before .before .before .before .before .pre .1) in
     let s = run-step r (digits-more (a .more) (a .v) (c .before .before .before .before .if1 .left)) (w .0) (w .1) in
@@ -135,7 +135,7 @@ write-digits-returns-2 : (t : ℕ) → write-digits-lts.Need-returns-2 (
   write-digits-below t,
   write-digits.Post,
 ) (write-digits-at t) write-digits.Post
-write-digits-returns-2 t c =     let a = c .before .before .before .before .before .before .args in
+write-digits-returns-2 t c = let a = c .before .before .before .before .before .before .args in
     let w = c .before .before .write-digits .ensures in
     let r = run-start (now (a .out)) (a .at) (digits (a .more) (a .v)) (c .before .before .before .before .before .before .pre .1) in
     let s = run-step r (digits-more (a .more) (a .v) (c .before .before .before .before .if1 .left)) (w .0) (w .1) in

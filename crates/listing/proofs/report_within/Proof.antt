@@ -54,7 +54,7 @@ same-length-3 : tie.Need-same-length-3
 same-length-3 c = search needs
 
 returns-2 : tie.Need-returns-2
-returns-2 c =     let a = c .before .before .before .before .before .before .before .before .before .before .before .before .before .args in
+returns-2 c = let a = c .before .before .before .before .before .before .before .before .before .before .before .before .before .args in
     reported-whole (now (a .s)) (now (a .out)) (omega (arith, needed (c .before .before .before .before .before .before .before .before))) (rw (front (c .before .before .before .before .before .before .before .before)) at (c .before .before .write-bytes .ensures))
 
 pub report-within-spec : {M : Type 1} → statement M

@@ -24,11 +24,11 @@ shared-slice-read-out : tie.Need-shared-slice-read-out Inv-loop μ-loop
 shared-slice-read-out c = omega arith
 
 slice-write-out : tie.Need-slice-write-out Inv-loop μ-loop
-slice-write-out c =     let r = run-room (c .before .before .loop .inv .2) (list-turn (now (c .before .before .before .args .bytes)) (c .before .before .loop .i) (omega arith)) in
+slice-write-out c = let r = run-room (c .before .before .loop .inv .2) (list-turn (now (c .before .before .before .args .bytes)) (c .before .before .loop .i) (omega arith)) in
     omega arith
 
 add-at : tie.Need-add-at Inv-loop μ-loop
-add-at c =     let r = run-room (c .before .before .loop .inv .2) (list-turn (now (c .before .before .before .args .bytes)) (c .before .before .loop .i) (omega arith)) in
+add-at c = let r = run-room (c .before .before .loop .inv .2) (list-turn (now (c .before .before .before .args .bytes)) (c .before .before .loop .i) (omega arith)) in
     search needs
 
 add-i : tie.Need-add-i Inv-loop μ-loop
@@ -38,7 +38,7 @@ loop-less : tie.Need-loop-less Inv-loop μ-loop
 loop-less c = omega arith
 
 loop-again : tie.Need-loop-again Inv-loop μ-loop
-loop-again c =     (omega arith, c .before .before .loop .inv .1, run-step (c .before .before .loop .inv .2) (list-turn (now (c .before .before .before .args .bytes)) (c .before .before .loop .i) (omega arith)) refl refl)
+loop-again c = (omega arith, c .before .before .loop .inv .1, run-step (c .before .before .loop .inv .2) (list-turn (now (c .before .before .before .args .bytes)) (c .before .before .loop .i) (omega arith)) refl refl)
 
 same-length : tie.Need-same-length Inv-loop μ-loop
 same-length c = c .before .loop .inv .2 .long

@@ -26,7 +26,7 @@ shared-slice-read-write-seat : tie.Need-shared-slice-read-write-seat Inv-loop μ
 shared-slice-read-write-seat c = omega arith
 
 write-seat-requires : tie.Need-write-seat-requires Inv-loop μ-loop
-write-seat-requires c κs =     let a = c .before .before .before .before .before .before .args in
+write-seat-requires c κs = let a = c .before .before .before .before .before .before .args in
     run-room (c .before .before .before .loop .inv .1) (along-turn (seat-bytes (a .n) (a .m)) (now (a .places)) (c .before .before .before .loop .p) (omega arith))
 
 add-p : tie.Need-add-p Inv-loop μ-loop
@@ -36,7 +36,7 @@ loop-less : tie.Need-loop-less Inv-loop μ-loop
 loop-less c = omega arith
 
 loop-again : tie.Need-loop-again Inv-loop μ-loop
-loop-again c =     let a = c .before .before .before .before .before .before .before .before .before .args in
+loop-again c = let a = c .before .before .before .before .before .before .before .before .before .args in
     let w = c .before .before .write-seat .ensures in
     (omega arith, run-step (c .before .before .before .before .before .before .loop .inv .1) (along-turn (seat-bytes (a .n) (a .m)) (now (a .places)) (c .before .before .before .before .before .before .loop .p) (omega arith)) (w .0) (w .1))
 
@@ -44,7 +44,7 @@ same-length : tie.Need-same-length Inv-loop μ-loop
 same-length c = c .before .loop .inv .1 .long
 
 returns : tie.Need-returns Inv-loop μ-loop
-returns c =     let a = c .before .before .before .before .args in
+returns c = let a = c .before .before .before .before .args in
     run-end (c .before .loop .inv .1) (along-end (seat-bytes (a .n) (a .m)) (now (a .places)) (c .before .loop .p) (omega arith))
 
 pub write-cells-spec : {M : Type 1} → statement M

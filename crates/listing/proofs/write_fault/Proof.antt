@@ -21,16 +21,16 @@ is-inner-requires : tie.Need-is-inner-requires
 is-inner-requires c κs = search needs
 
 write-path-requires : tie.Need-write-path-requires
-write-path-requires c κs =     let a = c .before .before .before .before .args in rw (cond-taken (path-line (a .p) (a .d)) [] (tested (c .before .before)) (c .before .if1 .taken)) at (c .before .before .before .before .pre)
+write-path-requires c κs = let a = c .before .before .before .before .args in rw (cond-taken (path-line (a .p) (a .d)) [] (tested (c .before .before)) (c .before .if1 .taken)) at (c .before .before .before .before .pre)
 
 same-length : tie.Need-same-length
 same-length c = search needs
 
 returns : tie.Need-returns
-returns c =     let a = c .before .before .before .before .before .before .before .args in rw (cond-taken (path-line (a .p) (a .d)) [] (tested (c .before .before .before .before .before)) (c .before .before .before .before .if1 .taken)) (c .before .before .write-path .ensures)
+returns c = let a = c .before .before .before .before .before .before .before .args in rw (cond-taken (path-line (a .p) (a .d)) [] (tested (c .before .before .before .before .before)) (c .before .before .before .before .if1 .taken)) (c .before .before .write-path .ensures)
 
 returns-2 : tie.Need-returns-2
-returns-2 c =     let a = c .before .before .before .args in rw (cond-left (path-line (a .p) (a .d)) [] (tested (c .before)) (c .if1 .left)) (omega arith, refl)
+returns-2 c = let a = c .before .before .before .args in rw (cond-left (path-line (a .p) (a .d)) [] (tested (c .before)) (c .if1 .left)) (omega arith, refl)
 
 pub write-fault-spec : {M : Type 1} → statement M
 write-fault-spec =

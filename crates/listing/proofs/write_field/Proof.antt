@@ -16,18 +16,18 @@ add-write-digits : tie.Need-add-write-digits
 add-write-digits c = search needs
 
 write-digits-requires : tie.Need-write-digits-requires
-write-digits-requires c κs =     let a = c .before .before .args in
+write-digits-requires c κs = let a = c .before .before .args in
     let r = run-step (run-start (now (a .out)) (a .at) (field 0 (a .v)) (c .before .before .pre)) (splits (32 ∷ []) (digits 19 (a .v))) refl refl in
     run-room r (splits-all (digits 19 (a .v)))
 
 same-length : tie.Need-same-length
-same-length c =     let a = c .before .before .before .before .before .args in
+same-length c = let a = c .before .before .before .before .before .args in
     let w = c .before .before .write-digits .ensures in
     let r = run-step (run-start (now (a .out)) (a .at) (field 0 (a .v)) (c .before .before .before .before .before .pre)) (splits (32 ∷ []) (digits 19 (a .v))) refl refl in
     run-step r (splits-all (digits 19 (a .v))) (w .0) (w .1) .long
 
 returns : tie.Need-returns
-returns c =     let a = c .before .before .before .before .before .args in
+returns c = let a = c .before .before .before .before .before .args in
     let w = c .before .before .write-digits .ensures in
     let r = run-step (run-start (now (a .out)) (a .at) (field 0 (a .v)) (c .before .before .before .before .before .pre)) (splits (32 ∷ []) (digits 19 (a .v))) refl refl in
     run-end (run-step r (splits-all (digits 19 (a .v))) (w .0) (w .1)) refl

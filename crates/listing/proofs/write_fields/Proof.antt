@@ -28,7 +28,7 @@ shared-slice-read-write-field : tie.Need-shared-slice-read-write-field Inv-loop 
 shared-slice-read-write-field c = omega arith
 
 write-field-requires : tie.Need-write-field-requires Inv-loop μ-loop
-write-field-requires c κs =     run-room (c .before .before .before .loop .inv .2) (along-turn field (now (c .before .before .before .before .before .before .args .values)) (c .before .before .before .loop .i) (omega arith))
+write-field-requires c κs = run-room (c .before .before .before .loop .inv .2) (along-turn field (now (c .before .before .before .before .before .before .args .values)) (c .before .before .before .loop .i) (omega arith))
 
 add-i : tie.Need-add-i Inv-loop μ-loop
 add-i c = search needs
@@ -37,7 +37,7 @@ loop-less : tie.Need-loop-less Inv-loop μ-loop
 loop-less c = omega arith
 
 loop-again : tie.Need-loop-again Inv-loop μ-loop
-loop-again c =     let w = c .before .before .write-field .ensures in
+loop-again c = let w = c .before .before .write-field .ensures in
     (omega arith, c .before .before .before .before .before .before .loop .inv .1, run-step (c .before .before .before .before .before .before .loop .inv .2) (along-turn field (now (c .before .before .before .before .before .before .before .before .before .args .values)) (c .before .before .before .before .before .before .loop .i) (omega arith)) (w .0) (w .1))
 
 same-length : tie.Need-same-length Inv-loop μ-loop

@@ -14,23 +14,26 @@ enum-known-head : tie.Need-enum-known-head
 enum-known-head c = search needs
 
 write-map-requires : tie.Need-write-map-requires
-write-map-requires c κs =     let s = c .before .before .before .before .before .before .before .before .before .before .before .before .before .before .before .before .before .before .before .before in
+write-map-requires c κs = let s = c .before .before .before .before .before .before .before .before .before .before .before .before .before .before .before .before .before .before .before .before in
     let a = s .args in
     let p = c .before .before .before .before .before .before .before .before .before .before .before .read-map .ensures in
-    let l = s .pre .2 in
-    (s .pre .1, record {
-      grid-long = c .before .before .before .before .before .before .before .before .before .before .before .read-map .kept .1 .0 ∙ l .grid-long;
-      directions-long = l .directions-long;
-      places-blank = l .places-blank;
-      across-blank = l .across-blank;
-      down-blank = l .down-blank;
-    }, rw (file-read (now (a .s)) (c .before .before .before .before .before .before .before .before .before .before .before .read-map .result) (s .pre .0) (p .0) (p .1) (c .before .before .before .before .before .before .before .head .given .1)) at (s .pre .3))
+    let l = s .pre .2 in (
+      s .pre .1,
+      record {
+        grid-long = c .before .before .before .before .before .before .before .before .before .before .before .read-map .kept .1 .0 ∙ l .grid-long;
+        directions-long = l .directions-long;
+        places-blank = l .places-blank;
+        across-blank = l .across-blank;
+        down-blank = l .down-blank;
+      },
+      rw (file-read (now (a .s)) (c .before .before .before .before .before .before .before .before .before .before .before .read-map .result) (s .pre .0) (p .0) (p .1) (c .before .before .before .before .before .before .before .head .given .1)) at (s .pre .3),
+    )
 
 enum-known-r : tie.Need-enum-known-r
 enum-known-r c = search needs
 
 write-refusal-requires : tie.Need-write-refusal-requires
-write-refusal-requires c κs =     let s = c .before .before .before .before .before .before .before .before .before .before .before .before .before .before .before in
+write-refusal-requires c κs = let s = c .before .before .before .before .before .before .before .before .before .before .before .before .before .before .before in
     let a = s .args in
     let p = c .before .before .before .before .before .before .read-map .ensures in
     rw (file-refused (now (a .s)) (c .before .before .before .before .before .before .read-map .result) (s .pre .0) (p .0) (p .1) (c .before .before .r .given .1)) at (s .pre .3)
@@ -54,7 +57,7 @@ same-length-6 : tie.Need-same-length-6
 same-length-6 c = search needs
 
 returns : tie.Need-returns
-returns c =     let s = c .before .before .before .before .before .before .before .before .before .before .before .before .before .before .before .before .before .before .before .before .before .before .before .before .before .before .before .before .before .before .before in
+returns c = let s = c .before .before .before .before .before .before .before .before .before .before .before .before .before .before .before .before .before .before .before .before .before .before .before .before .before .before .before .before .before .before .before in
     let a = s .args in
     let p = c .before .before .before .before .before .before .before .before .before .before .before .before .before .before .before .before .before .before .before .before .before .before .read-map .ensures in
     rw (file-read (now (a .s)) (c .before .before .before .before .before .before .before .before .before .before .before .before .before .before .before .before .before .before .before .before .before .before .read-map .result) (s .pre .0) (p .0) (p .1) (c .before .before .before .before .before .before .before .before .before .before .before .before .before .before .before .before .before .before .head .given .1)) (c .before .before .before .before .before .before .before .before .before .before .write-map .ensures)
@@ -66,7 +69,7 @@ same-length-8 : tie.Need-same-length-8
 same-length-8 c = search needs
 
 returns-2 : tie.Need-returns-2
-returns-2 c =     let s = c .before .before .before .before .before .before .before .before .before .before .before .before .before .before .before .before .before .before in
+returns-2 c = let s = c .before .before .before .before .before .before .before .before .before .before .before .before .before .before .before .before .before .before in
     let a = s .args in
     let p = c .before .before .before .before .before .before .before .before .before .read-map .ensures in
     rw (file-refused (now (a .s)) (c .before .before .before .before .before .before .before .before .before .read-map .result) (s .pre .0) (p .0) (p .1) (c .before .before .before .before .before .r .given .1)) (c .before .before .write-refusal .ensures)

@@ -11,7 +11,7 @@ use Rattle.listing.proofs.write_letter.Statement.{statement}
 use Rattle.listing.proofs.write_letter.Tie as tie
 
 slice-write-out : tie.Need-slice-write-out
-slice-write-out c =     let r : c .before .args .at + 1 ≤ length (now (c .before .args .out)) = rw (ne-eqb _ _ (c .if1 .taken)) at (c .before .pre) in
+slice-write-out c = let r : c .before .args .at + 1 ≤ length (now (c .before .args .out)) = rw (ne-eqb _ _ (c .if1 .taken)) at (c .before .pre) in
     omega arith
 
 add-result : tie.Need-add-result

@@ -22,7 +22,7 @@ shared-slice-read-write-letter : tie.Need-shared-slice-read-write-letter Inv-loo
 shared-slice-read-write-letter c = omega arith
 
 write-letter-requires : tie.Need-write-letter-requires Inv-loop μ-loop
-write-letter-requires c κs =     run-room (c .before .before .before .loop .inv .1) (along-turn letter-bytes (now (c .before .before .before .before .before .before .args .switches)) (c .before .before .before .loop .p) (omega arith))
+write-letter-requires c κs = run-room (c .before .before .before .loop .inv .1) (along-turn letter-bytes (now (c .before .before .before .before .before .before .args .switches)) (c .before .before .before .loop .p) (omega arith))
 
 add-p : tie.Need-add-p Inv-loop μ-loop
 add-p c = omega arith
@@ -31,7 +31,7 @@ loop-less : tie.Need-loop-less Inv-loop μ-loop
 loop-less c = omega arith
 
 loop-again : tie.Need-loop-again Inv-loop μ-loop
-loop-again c =     let w = c .before .before .write-letter .ensures in
+loop-again c = let w = c .before .before .write-letter .ensures in
     (omega arith, run-step (c .before .before .before .before .before .before .loop .inv .1) (along-turn letter-bytes (now (c .before .before .before .before .before .before .before .before .before .args .switches)) (c .before .before .before .before .before .before .loop .p) (omega arith)) (w .0) (w .1))
 
 same-length : tie.Need-same-length Inv-loop μ-loop

@@ -23,13 +23,18 @@ slice-aggregate-write-file-5 c = search needs
 
 write-file-requires : tie.Need-write-file-requires
 unfolding span
-write-file-requires c κs =     (refl, refl, record {
-      grid-long = refl;
-      directions-long = refl;
-      places-blank = refl;
-      across-blank = refl;
-      down-blank = refl;
-    }, c .before .before .before .before .before .before .before .before .pre)
+write-file-requires c κs = (
+  refl,
+  refl,
+  record {
+    grid-long = refl;
+    directions-long = refl;
+    places-blank = refl;
+    across-blank = refl;
+    down-blank = refl;
+  },
+  c .before .before .before .before .before .before .before .before .pre,
+)
 
 same-length : tie.Need-same-length
 same-length c = search needs

@@ -24,32 +24,34 @@ enum-known-o : tie.Need-enum-known-o
 enum-known-o c = search needs
 
 write-head-requires : tie.Need-write-head-requires
-write-head-requires c κs =     let s = c .before .before .before .before .before .before .before .before .before .before .before .before .before .before in
+write-head-requires c κs = let s = c .before .before .before .before .before .before .before .before .before .before .before .before .before .before in
     let a = s .args in
     let p = c .before .before .before .before .before .before .plan-repair .ensures in
     let r = run-start (now (a .out)) 0 (lines s) (s .pre .2) in
     run-room r (map-planned (a .head) (now (a .grid)) (c .before .before .before .before .before .before .plan-repair .result) (s .pre .0) (p .0) (p .1) (c .before .before .o .given .1))
 
 write-outcome-requires : tie.Need-write-outcome-requires
-write-outcome-requires c κs =     let s = c .before .before .before .before .before .before .before .before .before .before .before .before .before .before .before .before .before .before .before .before .before .before in
+write-outcome-requires c κs = let s = c .before .before .before .before .before .before .before .before .before .before .before .before .before .before .before .before .before .before .before .before .before .before in
     let a = s .args in
     let p = c .before .before .before .before .before .before .before .before .before .before .before .before .before .before .plan-repair .ensures in
     let w = c .before .before .before .before .before .before .before .write-head .ensures in
     let l = s .pre .1 in
-    let r = run-start (now (a .out)) 0 (lines s) (s .pre .2) in
-    (record {
-      grid-long = l .grid-long;
-      directions-long = c .before .before .before .before .before .before .before .before .before .before .before .before .before .before .plan-repair .kept .1 .1 .1 .0 ∙ l .directions-long;
-      places-blank = l .places-blank;
-      across-blank = l .across-blank;
-      down-blank = l .down-blank;
-    }, run-room (run-step r (map-planned (a .head) (now (a .grid)) (c .before .before .before .before .before .before .before .before .before .before .before .before .before .before .plan-repair .result) (s .pre .0) (p .0) (p .1) (c .before .before .before .before .before .before .before .before .before .before .o .given .1)) (w .0) (w .1)) (splits-all _))
+    let r = run-start (now (a .out)) 0 (lines s) (s .pre .2) in (
+      record {
+        grid-long = l .grid-long;
+        directions-long = c .before .before .before .before .before .before .before .before .before .before .before .before .before .before .plan-repair .kept .1 .1 .1 .0 ∙ l .directions-long;
+        places-blank = l .places-blank;
+        across-blank = l .across-blank;
+        down-blank = l .down-blank;
+      },
+      run-room (run-step r (map-planned (a .head) (now (a .grid)) (c .before .before .before .before .before .before .before .before .before .before .before .before .before .before .plan-repair .result) (s .pre .0) (p .0) (p .1) (c .before .before .before .before .before .before .before .before .before .before .o .given .1)) (w .0) (w .1)) (splits-all _),
+    )
 
 enum-known-r : tie.Need-enum-known-r
 enum-known-r c = search needs
 
 write-refusal-requires : tie.Need-write-refusal-requires
-write-refusal-requires c κs =     let s = c .before .before .before .before .before .before .before .before .before .before .before .before .before .before in
+write-refusal-requires c κs = let s = c .before .before .before .before .before .before .before .before .before .before .before .before .before .before in
     let a = s .args in
     let p = c .before .before .before .before .before .before .plan-repair .ensures in
     rw (map-refused (a .head) (now (a .grid)) (c .before .before .before .before .before .before .plan-repair .result) (s .pre .0) (p .0) (p .1) (c .before .before .r .given .1)) at (s .pre .2)
@@ -70,7 +72,7 @@ same-length-5 : tie.Need-same-length-5
 same-length-5 c = search needs
 
 returns : tie.Need-returns
-returns c =     let s = c .before .before .before .before .before .before .before .before .before .before .before .before .before .before .before .before .before .before .before .before .before .before .before .before .before .before .before .before .before .before .before in
+returns c = let s = c .before .before .before .before .before .before .before .before .before .before .before .before .before .before .before .before .before .before .before .before .before .before .before .before .before .before .before .before .before .before .before in
     let a = s .args in
     let p = c .before .before .before .before .before .before .before .before .before .before .before .before .before .before .before .before .before .before .before .before .before .before .before .plan-repair .ensures in
     let w = c .before .before .before .before .before .before .before .before .before .before .before .before .before .before .before .before .write-head .ensures in
@@ -86,7 +88,7 @@ same-length-7 : tie.Need-same-length-7
 same-length-7 c = search needs
 
 returns-2 : tie.Need-returns-2
-returns-2 c =     let s = c .before .before .before .before .before .before .before .before .before .before .before .before .before .before .before .before .before in
+returns-2 c = let s = c .before .before .before .before .before .before .before .before .before .before .before .before .before .before .before .before .before in
     let a = s .args in
     let p = c .before .before .before .before .before .before .before .before .before .plan-repair .ensures in
     rw (map-refused (a .head) (now (a .grid)) (c .before .before .before .before .before .before .before .before .before .plan-repair .result) (s .pre .0) (p .0) (p .1) (c .before .before .before .before .before .r .given .1)) (c .before .before .write-refusal .ensures)

@@ -18,13 +18,13 @@ slice-aggregate-write-count : tie.Need-slice-aggregate-write-count
 slice-aggregate-write-count c = search needs
 
 write-count-requires : tie.Need-write-count-requires
-write-count-requires c κs =     let s = c .before .before .before .before .before .before .before .before .before .before .before in
+write-count-requires c κs = let s = c .before .before .before .before .before .before .before .before .before .before .before in
     let a = s .args in
     let r = run-start (now (a .out)) (a .at) (outcome-lines (a .n) (a .m) (now (a .grid)) (now (a .directions)) (a .o)) (s .pre .1) in
     run-room r (outcome-repaired (a .n) (a .m) (now (a .grid)) (now (a .directions)) (c .before .before .before .o .given .1))
 
 write-repair-requires : tie.Need-write-repair-requires
-write-repair-requires c κs =     let s = c .before .before .before .before .before .before .before .before .before .before .before .before .before .before .before .before .before .before in
+write-repair-requires c κs = let s = c .before .before .before .before .before .before .before .before .before .before .before .before .before .before .before .before .before .before in
     let a = s .args in
     let w = c .before .before .before .before .before .before .write-count .ensures in
     let r = run-start (now (a .out)) (a .at) (outcome-lines (a .n) (a .m) (now (a .grid)) (now (a .directions)) (a .o)) (s .pre .1) in
@@ -37,7 +37,7 @@ slice-aggregate-write-count-2 : tie.Need-slice-aggregate-write-count-2
 slice-aggregate-write-count-2 c = search needs
 
 write-count-requires-2 : tie.Need-write-count-requires-2
-write-count-requires-2 c κs =     let s = c .before .before .before .before .before .before .before .before .before .before .before in
+write-count-requires-2 c κs = let s = c .before .before .before .before .before .before .before .before .before .before .before in
     let a = s .args in
     rw (outcome-beyond (a .n) (a .m) (now (a .grid)) (now (a .directions)) (c .before .before .before .o2 .given .1)) at (s .pre .1)
 
@@ -48,7 +48,7 @@ slice-aggregate-write-count-3 : tie.Need-slice-aggregate-write-count-3
 slice-aggregate-write-count-3 c = search needs
 
 write-count-requires-3 : tie.Need-write-count-requires-3
-write-count-requires-3 c κs =     let s = c .before .before .before .before .before .before .before .before .before .before .before in
+write-count-requires-3 c κs = let s = c .before .before .before .before .before .before .before .before .before .before .before in
     let a = s .args in
     rw (outcome-spent (a .n) (a .m) (now (a .grid)) (now (a .directions)) (c .before .before .before .o3 .given .1)) at (s .pre .1)
 
@@ -65,7 +65,7 @@ same-length-4 : tie.Need-same-length-4
 same-length-4 c = search needs
 
 returns : tie.Need-returns
-returns c =     let s = c .before .before .before .before .before .before .before .before .before .before .before .before .before .before .before .before .before .before .before .before .before .before .before .before .before .before .before in
+returns c = let s = c .before .before .before .before .before .before .before .before .before .before .before .before .before .before .before .before .before .before .before .before .before .before .before .before .before .before .before in
     let a = s .args in
     let w = c .before .before .before .before .before .before .before .before .before .before .before .before .before .before .before .write-count .ensures in
     let x = c .before .before .before .before .before .before .before .before .write-repair .ensures in
@@ -77,14 +77,14 @@ same-length-5 : tie.Need-same-length-5
 same-length-5 c = search needs
 
 returns-2 : tie.Need-returns-2
-returns-2 c =     let a = c .before .before .before .before .before .before .before .before .before .before .before .before .before .before .args in
+returns-2 c = let a = c .before .before .before .before .before .before .before .before .before .before .before .before .before .before .args in
     rw (outcome-beyond (a .n) (a .m) (now (a .grid)) (now (a .directions)) (c .before .before .before .before .before .before .o2 .given .1)) (c .before .before .write-count2 .ensures)
 
 same-length-6 : tie.Need-same-length-6
 same-length-6 c = search needs
 
 returns-3 : tie.Need-returns-3
-returns-3 c =     let a = c .before .before .before .before .before .before .before .before .before .before .before .before .before .before .args in
+returns-3 c = let a = c .before .before .before .before .before .before .before .before .before .before .before .before .before .before .args in
     rw (outcome-spent (a .n) (a .m) (now (a .grid)) (now (a .directions)) (c .before .before .before .before .before .before .o3 .given .1)) (c .before .before .write-count3 .ensures)
 
 pub write-outcome-spec : {M : Type 1} → statement M

@@ -10,7 +10,7 @@ use Rattle.listing.proofs.write_paths.Statement.{statement}
 use Rattle.listing.proofs.write_paths.Tie as tie
 
 abbrev Inv-loop : tie.InvT-loop
-Inv-loop out₀ start n m grid directions at₀ p₀ out at p =     (p ≤ 1024) × Run out₀ start (along (fault-bytes n m directions) 0 grid) out at (along-from (fault-bytes n m directions) grid p)
+Inv-loop out₀ start n m grid directions at₀ p₀ out at p = (p ≤ 1024) × Run out₀ start (along (fault-bytes n m directions) 0 grid) out at (along-from (fault-bytes n m directions) grid p)
 
 abbrev μ-loop : tie.MeasureT-loop
 μ-loop out₀ start n m grid directions at₀ p₀ out at p = 1024 - p
@@ -25,7 +25,7 @@ shared-slice-read-write-fault-2 : tie.Need-shared-slice-read-write-fault-2 Inv-l
 shared-slice-read-write-fault-2 c = omega arith
 
 write-fault-requires : tie.Need-write-fault-requires Inv-loop μ-loop
-write-fault-requires c κs =     let a = c .before .before .before .before .before .before .before .before .args in
+write-fault-requires c κs = let a = c .before .before .before .before .before .before .before .before .args in
     run-room (c .before .before .before .before .loop .inv .1) (along-turn (fault-bytes (a .n) (a .m) (now (a .directions))) (now (a .grid)) (c .before .before .before .before .loop .p) (omega arith))
 
 add-p : tie.Need-add-p Inv-loop μ-loop
@@ -35,7 +35,7 @@ loop-less : tie.Need-loop-less Inv-loop μ-loop
 loop-less c = omega arith
 
 loop-again : tie.Need-loop-again Inv-loop μ-loop
-loop-again c =     let a = c .before .before .before .before .before .before .before .before .before .before .before .args in
+loop-again c = let a = c .before .before .before .before .before .before .before .before .before .before .before .args in
     let w = c .before .before .write-fault .ensures in
     (omega arith, run-step (c .before .before .before .before .before .before .before .loop .inv .1) (along-turn (fault-bytes (a .n) (a .m) (now (a .directions))) (now (a .grid)) (c .before .before .before .before .before .before .before .loop .p) (omega arith)) (w .0) (w .1))
 
@@ -43,7 +43,7 @@ same-length : tie.Need-same-length Inv-loop μ-loop
 same-length c = c .before .loop .inv .1 .long
 
 returns : tie.Need-returns Inv-loop μ-loop
-returns c =     let a = c .before .before .before .before .before .args in
+returns c = let a = c .before .before .before .before .before .args in
     run-end (c .before .loop .inv .1) (along-end (fault-bytes (a .n) (a .m) (now (a .directions))) (now (a .grid)) (c .before .loop .p) (omega arith))
 
 pub write-paths-spec : {M : Type 1} → statement M

@@ -14,12 +14,13 @@ route-switches-requires : tie.Need-route-switches-requires
 route-switches-requires c κs = search needs
 
 write-plan-requires : tie.Need-write-plan-requires
-write-plan-requires c κs =     let s = c .before .before .before .before .before .before .before .before .before .before .before .before .before .before .before .before .before .before .before .before .before in
+write-plan-requires c κs = let s = c .before .before .before .before .before .before .before .before .before .before .before .before .before .before .before .before .before .before .before .before .before in
     let a = s .args in
     let p = c .before .before .before .before .before .before .before .before .before .before .before .before .before .place-cells .ensures .1 in
-    let q = c .before .before .before .before .before .before .before .before .route-switches .ensures .1 in
-    (all-long (a .n) (a .m) (now (a .grid)) (now (a .directions)) (s .pre .0) p (q .0) (q .1),
-      rw (repair-is (a .n) (a .m) (now (a .grid)) (now (a .directions)) (s .pre .0) p (q .0) (q .1)) (s .pre .1))
+    let q = c .before .before .before .before .before .before .before .before .route-switches .ensures .1 in (
+      all-long (a .n) (a .m) (now (a .grid)) (now (a .directions)) (s .pre .0) p (q .0) (q .1),
+      rw (repair-is (a .n) (a .m) (now (a .grid)) (now (a .directions)) (s .pre .0) p (q .0) (q .1)) (s .pre .1),
+    )
 
 same-length : tie.Need-same-length
 same-length c = search needs
@@ -34,7 +35,7 @@ same-length-4 : tie.Need-same-length-4
 same-length-4 c = search needs
 
 returns : tie.Need-returns
-returns c =     let s = c .before .before .before .before .before .before .before .before .before .before .before .before .before .before .before .before .before .before .before .before .before .before .before .before in
+returns c = let s = c .before .before .before .before .before .before .before .before .before .before .before .before .before .before .before .before .before .before .before .before .before .before .before .before in
     let a = s .args in
     let p = c .before .before .before .before .before .before .before .before .before .before .before .before .before .before .before .before .place-cells .ensures .1 in
     let q = c .before .before .before .before .before .before .before .before .before .before .before .route-switches .ensures .1 in

@@ -16,18 +16,18 @@ wide-requires : tie.Need-wide-requires
 wide-requires c κs = search needs
 
 write-cell-requires : tie.Need-write-cell-requires
-write-cell-requires c κs =     let a = c .before .before .before .before .before .args in
+write-cell-requires c κs = let a = c .before .before .before .before .before .args in
     rw (c .wide .ensures) (rw (cond-taken (cell-line (a .p) (a .q)) [] (c .before .before .before .is-inner .ensures) (c .before .before .if1 .taken)) at (c .before .before .before .before .before .pre))
 
 same-length : tie.Need-same-length
 same-length c = search needs
 
 returns : tie.Need-returns
-returns c =     let a = c .before .before .before .before .before .before .before .before .args in
+returns c = let a = c .before .before .before .before .before .before .before .before .args in
     rw (cond-taken (cell-line (a .p) (a .q)) [] (c .before .before .before .before .before .before .is-inner .ensures) (c .before .before .before .before .before .if1 .taken)) (rw (c .before .before .before .wide .ensures) at (c .before .before .write-cell .ensures))
 
 returns-2 : tie.Need-returns-2
-returns-2 c =     let a = c .before .before .before .args in rw (cond-left (cell-line (a .p) (a .q)) [] (c .before .is-inner .ensures) (c .if1 .left)) (omega arith, refl)
+returns-2 c = let a = c .before .before .before .args in rw (cond-left (cell-line (a .p) (a .q)) [] (c .before .is-inner .ensures) (c .if1 .left)) (omega arith, refl)
 
 pub write-seat-spec : {M : Type 1} → statement M
 write-seat-spec =
