@@ -3,3 +3,4 @@ pub mod Buffers
 pub mod Cases
 pub mod Fits
 pub mod Reports
+pub mod Examples
