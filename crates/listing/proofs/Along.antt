@@ -1,5 +1,5 @@
--- The bytes along a list, a turn and the end: the law of every loop that writes what each element gives. The digits of a number, by the
--- test of the code. Assumes nothing.
+-- The bytes along a list, a turn and the end: the law of every loop that writes what each element gives; and the digits of a number.
+-- Assumes nothing.
 use Prim.Native.Nat.{ℕ, zero, suc, _+_, _-_, _/_, _<_, _≤_}
 use mathlib.Core.Path.{_≡_, refl}
 use mathlib.Core.Bool.{true, false, _||_, true≢false}

@@ -1,7 +1,7 @@
--- The placement and the switches of a plan, for which blank buffers were lent: they are 1,024 long, and the plan's lines are those of the
--- repair. Assumes nothing.
+-- The placement and the switches of a plan, for which blank buffers were lent: their lengths, and the lines of the plan.
+-- Assumes nothing.
 use Prim.Native.Nat.{ℕ}
-use mathlib.Core.Path.{_≡_, refl, sym, ap, _∙_}
+use mathlib.Core.Path.{_≡_, ap, _∙_}
 use mathlib.Core.List.{List}
 use lib.ListN.{length}
 use Rattle.array.specs.Buffer.{nothing-at, zeros, written}

@@ -2,16 +2,16 @@
 -- Assumes nothing.
 use Prim.Native.Nat.{ℕ, zero, suc, _+_, _-_, _*_, _/_, _%_, _<_, _≤_}
 use mathlib.Core.Path.{_≡_, refl, sym, ap, subst, _∙_}
-use mathlib.Core.Bool.{true, false, cond, _&&_}
+use mathlib.Core.Bool.{true}
 use mathlib.Core.List.{List, [], _∷_, _++_}
 use native.Mathlib.Nat.{zero-add, add-zero, add-suc, suc-add, mul-suc}
 use native.Mathlib.Omega.{arith}
 use borrow.Author.Tests.{lt-ltb, le-ltb, eqb-true}
-use lib.Dec.{ltb, eqb}
+use lib.Dec.{eqb}
 use lib.ListN.{length, getD, length-append}
 use Rattle.array.specs.Place.{row, column, inner}
 use Rattle.array.specs.Buffer.{nothing-at, zeros, long, all-long, written}
-use Rattle.array.specs.Map.{inner-faulty, map-tests}
+use Rattle.array.specs.Map.{inner-faulty}
 use Rattle.array.specs.declared.Refusal.{Refusal}
 use Rattle.array.specs.declared.Verdict.{Verdict}
 use Rattle.array.specs.declared.Verdict.the-variants.{Accepted, Refused}
@@ -28,7 +28,7 @@ use Rattle.repair.proofs.Cells.{cell-low, placement-at, seat-low}
 use Rattle.readers.specs.Reading.{read-map}
 use Rattle.readers.specs.declared.Head.{Head}
 use Rattle.readers.specs.declared.FileRead.{FileRead}
-use Rattle.listing.specs.Listing.{along, digits, field, line, newline, map-word, repaired-word, beyond-word, spent-word, refused-word, path-word, cell-word, across-word, down-word, direction-letter, path-line, cell-line, fault-bytes, seat-bytes, letter-bytes, switch-line, plan-lines, repair-lines, outcome-lines, refusal-line, head-line, limit, map-lines, file-lines, listing}
+use Rattle.listing.specs.Listing.{along, digits, field, line, newline, map-word, repaired-word, beyond-word, spent-word, refused-word, path-word, cell-word, across-word, down-word, direction-letter, path-line, cell-line, fault-bytes, seat-bytes, letter-bytes, switch-line, plan-lines, repair-lines, outcome-lines, refusal-line, head-line, limit, map-lines, file-lines, listing, Listing-fits}
 use Rattle.listing.proofs.Buffers.{places-long, across-long, down-long}
 use Rattle.repair.specs.declared.Answer.the-variants as answer
 use Rattle.readers.specs.declared.FileRead.the-variants as reader
@@ -270,6 +270,6 @@ unfolding file-lines
 file-short (reader.File head, grid) = map-short head grid (plan-repair (head .rows) (head .columns) grid zeros limit) refl
 file-short (reader.Refused r, grid) = omega (arith, refusal-short r)
 
-pub listing-fits : (s : List ℕ) → length (listing s) ≤ 32768
+pub listing-fits : Listing-fits
 unfolding listing
 listing-fits s = file-short (read-map s zeros)

@@ -1,10 +1,10 @@
 -- Document 01, "The bench program": the bytes of the listing of a map file, from the bytes of the file alone.
 -- Assumes nothing.
-use Prim.Native.Nat.{ℕ, zero, suc, _+_, _/_, _%_}
+use Prim.Native.Nat.{ℕ, zero, suc, _+_, _/_, _%_, _≤_}
 use mathlib.Core.Bool.{cond}
 use mathlib.Core.List.{List, [], _∷_, _++_}
 use lib.Dec.{ltb, eqb}
-use lib.ListN.{getD}
+use lib.ListN.{length, getD}
 use Rattle.array.specs.Place.{row, column, inner}
 use Rattle.array.specs.Buffer.{zeros}
 use Rattle.array.specs.Map.{inner-faulty}
@@ -31,12 +31,12 @@ along f i (x ∷ xs) = f i x ++ along f (suc i) xs
 abbrev pub last-digit : ℕ → ℕ
 last-digit v = 48 + v % 10
 
--- the last k + 1 decimal digits of a number, without zeros in front
+-- the decimal digits of a number that has at most k + 1 of them
 unfoldable pub digits : ℕ → ℕ → List ℕ
 digits zero v = last-digit v ∷ []
 digits (suc k) v = cond (ltb v 10) (last-digit v ∷ []) (digits k (v / 10) ++ (last-digit v ∷ []))
 
--- a space and a number in decimal; one of 64 bits has at most 20 digits
+-- a space and a number; one of 64 bits has at most 20 digits
 abbrev pub field : ℕ → ℕ → List ℕ
 field i v = 32 ∷ digits 19 v
 
@@ -48,7 +48,7 @@ line word values end = word ++ (along field 0 values ++ end)
 abbrev pub newline : List ℕ
 newline = 10 ∷ []
 
--- the words that lines begin with, in ASCII; the last two end with a space
+-- the words that lines begin with, in ASCII; "across" and "down" with the space behind them
 abbrev pub map-word : List ℕ
 map-word = 109 ∷ 97 ∷ 112 ∷ []
 
@@ -153,6 +153,10 @@ file-lines (reader.Refused r, grid) = refusal-line r
 unfoldable pub listing : List ℕ → List ℕ
 listing s = file-lines (read-map s zeros)
 
--- what `report` answers, with the buffer afterwards: the length, the bytes after it kept; 14, with the length as place, where it is too short
+-- what `report` answers, with the buffer afterwards: the listing's length, the bytes after it kept; 14 where there is no room
 abbrev pub reported : List ℕ → List ℕ → FileWritten × List ℕ
 reported s out = put (room-test (listing s) out) (listing s) out
+
+-- the statement that a buffer of 32,768 bytes has room for every listing
+abbrev pub Listing-fits : Type 0
+Listing-fits = (s : List ℕ) → length (listing s) ≤ 32768

@@ -1,4 +1,5 @@
--- What the parts of the listing are written under. Assumes nothing.
+-- What the parts of the listing are written under, and what they write.
+-- Assumes nothing.
 use mathlib.Core.Path.{_≡_}
 use Prim.Native.Nat.{ℕ, _+_, _≤_}
 use mathlib.Core.List.{List}

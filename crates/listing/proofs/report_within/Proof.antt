@@ -2,13 +2,11 @@
 -- Assumes nothing.
 use denote.Ref.{now}
 use mathlib.Core.Path.{_≡_, sym}
-use mathlib.Core.List.{List}
-use Prim.Native.Nat.{ℕ, _≤_}
+use Prim.Native.Nat.{_≤_}
 use native.Mathlib.Omega.{arith}
 use lib.ListN.{length, take}
 use lib.Seq.{length-take-le}
 use Rattle.listing.specs.Listing.{listing}
-use Rattle.listing.specs.Parts.{Room, Wrote}
 use Rattle.listing.proofs.Fits.{listing-fits}
 use Rattle.listing.proofs.Reports.{front-length, front-within, front-is, reported-short, reported-whole}
 use borrow.Author.Needs.{needs}

@@ -1,7 +1,7 @@
 -- `listing::write_file` meets its contract, by the reader's answer.
 -- Assumes nothing.
 use denote.Ref.{now}
-use mathlib.Core.Path.{_≡_, _∙_}
+use mathlib.Core.Path.{_∙_}
 use Rattle.listing.proofs.Cases.{file-read, file-refused}
 use borrow.Author.Needs.{needs}
 use Rattle.listing.proofs.write_file.Statement.{statement}

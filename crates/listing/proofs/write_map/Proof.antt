@@ -1,7 +1,7 @@
 -- `listing::write_map` meets its contract, by the planner's answer.
 -- Assumes nothing.
 use denote.Ref.{now}
-use mathlib.Core.Path.{_≡_, refl, _∙_}
+use mathlib.Core.Path.{refl, _∙_}
 use mathlib.Core.List.{List}
 use Prim.Native.Nat.{ℕ}
 use Rattle.array.specs.Buffer.{zeros}

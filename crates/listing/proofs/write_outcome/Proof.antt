@@ -1,9 +1,7 @@
 -- `listing::write_outcome` meets its contract, outcome by outcome.
 -- Assumes nothing.
 use denote.Ref.{now}
-use mathlib.Core.Path.{_≡_, refl}
-use mathlib.Core.List.{List}
-use Prim.Native.Nat.{ℕ}
+use mathlib.Core.Path.{refl}
 use Rattle.writers.proofs.Runs.{splits-all, run-start, run-room, run-step, run-end}
 use Rattle.listing.specs.Listing.{outcome-lines}
 use Rattle.listing.proofs.Cases.{outcome-repaired, outcome-beyond, outcome-spent}

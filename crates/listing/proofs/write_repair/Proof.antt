@@ -1,7 +1,6 @@
 -- `listing::write_repair` meets its contract: the buffers hold the placement and the switches of the plan.
 -- Assumes nothing.
 use denote.Ref.{now}
-use mathlib.Core.Path.{_≡_}
 use Rattle.listing.proofs.Buffers.{all-long, repair-is}
 use borrow.Author.Needs.{needs}
 use Rattle.listing.proofs.write_repair.Statement.{statement}
