@@ -76,7 +76,7 @@ across-word = 97 ∷ 99 ∷ 114 ∷ 111 ∷ 115 ∷ 115 ∷ 32 ∷ []
 abbrev pub down-word : List ℕ
 down-word = 100 ∷ 111 ∷ 119 ∷ 110 ∷ 32 ∷ []
 
--- S, N, E or W
+-- S, N, E or W; a space for no direction, which no inner fault of a plan has
 abbrev pub direction-letter : ℕ → ℕ
 direction-letter d = by-direction d 83 78 69 87 32
 

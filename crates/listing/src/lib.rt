@@ -29,7 +29,7 @@ fn write_bytes(out: &mut [u8], start: usize, bytes: &[u8]) -> usize
     at
 }
 
-// Inner part: writes the decimal digits of a number, at most `more` and one, and gives the offset after them.
+// Inner part: writes the decimal digits of a number that has at most `more` + 1 of them, and gives the offset after them.
 fn write_digits(out: &mut [u8], at: usize, more: usize, v: usize) -> usize
     requires { ⌜ Room (now out) at (digits more v) ⌝ }
     ensures { λ r. ⌜ Wrote (now (out .entry)) at (digits more v) r (now (out .exit)) ⌝ }
@@ -48,7 +48,7 @@ fn write_field(out: &mut [u8], at: usize, v: usize) -> usize
     requires { ⌜ Room (now out) at (field 0 v) ⌝ }
     ensures { λ r. ⌜ Wrote (now (out .entry)) at (field 0 v) r (now (out .exit)) ⌝ }
 {
-    out[at] = 32;
+    out[at] = b' ';
     write_digits(out, at + 1, 19, v)
 }
 
@@ -74,16 +74,16 @@ fn write_line(out: &mut [u8], at: usize, word: &[u8], values: &[usize], end: &[u
     write_bytes(out, third, end)
 }
 
-// Inner part: the letter of a direction.
+// Inner part: the letter of a direction; a space where it is none.
 fn direction_letter(d: u8) -> u8
     ensures { λ r. ⌜ r ≡ direction-letter d ⌝ }
 {
     match d {
-        1 => 83,
-        2 => 78,
-        3 => 69,
-        4 => 87,
-        _ => 32,
+        1 => b'S',
+        2 => b'N',
+        3 => b'E',
+        4 => b'W',
+        _ => b' ',
     }
 }
 
@@ -93,7 +93,7 @@ fn write_path(out: &mut [u8], at: usize, p: usize, d: u8) -> usize
     ensures { λ r. ⌜ Wrote (now (out .entry)) at (path-line p d) r (now (out .exit)) ⌝ }
 {
     let values = [p / 32, p % 32];
-    let end = [32, direction_letter(d), 10];
+    let end = [b' ', direction_letter(d), b'\n'];
     write_line(out, at, b"path", &values, &end)
 }
 
@@ -351,7 +351,7 @@ fn write_listing(out: &mut [u8], s: &[u8]) -> usize
     )
 }
 
-// Inner part: fills `out` with the listing, over room for it.
+// Inner part: writes the listing to its room `text`, and copies it to `out` where it fits.
 fn report_within(s: &[u8], text: &mut [u8], out: &mut [u8]) -> FileWritten
     requires { ⌜ length (now text) ≡ 32768 ⌝ }
     ensures { λ r. ⌜ (r, now (out .exit)) ≡ reported (now (s .entry)) (now (out .entry)) ⌝ }
@@ -367,7 +367,8 @@ fn report_within(s: &[u8], text: &mut [u8], out: &mut [u8]) -> FileWritten
     FileWritten::Length(write_bytes(out, 0, &text[..needed]))
 }
 
-// Fills `out` with the listing of a map file, and answers its length.
+// Writes the listing of a map file to `out` and answers its length, with the bytes after it kept. Where `out` is too short it is 14, with
+// the length needed as place, and nothing is written.
 pub fn report(s: &[u8], out: &mut [u8]) -> FileWritten
     ensures { λ r. ⌜ (told r ≡ told (reported (now (s .entry)) (now (out .entry)) .0)) × (now (out .exit) ≡ reported (now (s .entry)) (now (out .entry)) .1) ⌝ }
 {
