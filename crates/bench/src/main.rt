@@ -1,0 +1,19 @@
+// Reads at most 4,096 bytes of a map from standard input, and prints its listing.
+use libc::STDIN_FILENO;
+use libc::STDOUT_FILENO;
+use writers::FileWritten;
+
+// Prints the listing of a map file, over room for it.
+fn print_listing(s: &[u8], text: &mut [u8]) {
+    let a = listing::report(s, text);
+    if let FileWritten::Length(k) = a {
+        io::write_all(STDOUT_FILENO, &text[..k]);
+    }
+}
+
+fn main() {
+    let mut buf = io::buffer();
+    let n = io::read_full(STDIN_FILENO, &mut buf);
+    let mut text = [0u8; 32768];
+    print_listing(&buf[..n], &mut text);
+}

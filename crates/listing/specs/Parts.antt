@@ -1,0 +1,32 @@
+-- What the parts of the listing are written under, and what they write.
+-- Assumes nothing.
+use mathlib.Core.Path.{_≡_}
+use Prim.Native.Nat.{ℕ, _+_, _≤_}
+use mathlib.Core.List.{List}
+use lib.ListN.{length}
+use lib.Seq.{sets}
+use Rattle.array.specs.Buffer.{zeros}
+
+-- there is room for bytes at an offset
+abbrev pub Room : List ℕ → ℕ → List ℕ → Type 0
+Room out at bytes = at + length bytes ≤ length out
+
+-- bytes were written at an offset: the offset after them, and the buffer afterwards
+abbrev pub Wrote : List ℕ → ℕ → List ℕ → ℕ → List ℕ → Type 0
+Wrote old at bytes next new = (next ≡ at + length bytes) × (new ≡ sets old at bytes)
+
+-- the buffers of a plan are all 1,024 long
+pub record Long (grid directions places across down : List ℕ) : Type 0 where
+  pub grid-long : length grid ≡ 1024
+  pub directions-long : length directions ≡ 1024
+  pub places-long : length places ≡ 1024
+  pub across-long : length across ≡ 1024
+  pub down-long : length down ≡ 1024
+
+-- a map's grid and directions, and blank buffers for its placement and its switches
+pub record Lent (grid directions places across down : List ℕ) : Type 0 where
+  pub grid-long : length grid ≡ 1024
+  pub directions-long : length directions ≡ 1024
+  pub places-blank : places ≡ zeros
+  pub across-blank : across ≡ zeros
+  pub down-blank : down ≡ zeros
