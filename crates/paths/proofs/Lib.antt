@@ -1,3 +1,4 @@
+pub mod Apart
 pub mod Ways
 pub mod Walking
 pub mod Meeting

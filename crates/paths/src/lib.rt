@@ -65,10 +65,16 @@ fn do_overlap(n: usize, m: usize, p: usize, d: u8, q: usize, e: u8) -> bool
     let y = p % 32;
     let v = q / 32;
     let w = q % 32;
-    (choose(d, x, 0, x, x, x) <= choose(e, n + 1, v, v, v, v))
-        & (choose(e, v, 0, v, v, v) <= choose(d, n + 1, x, x, x, x))
-        & (choose(d, y, y, y, 0, y) <= choose(e, w, w, m + 1, w, w))
-        & (choose(e, w, w, w, 0, w) <= choose(d, y, y, m + 1, y, y))
+    if choose(e, n + 1, v, v, v, v) < choose(d, x, 0, x, x, x) {
+        return false;
+    }
+    if choose(d, n + 1, x, x, x, x) < choose(e, v, 0, v, v, v) {
+        return false;
+    }
+    if choose(e, w, w, m + 1, w, w) < choose(d, y, y, y, 0, y) {
+        return false;
+    }
+    choose(e, w, w, w, 0, w) <= choose(d, y, y, m + 1, y, y)
 }
 
 // Whether two paths share a processor.
@@ -94,9 +100,13 @@ fn do_face(p: usize, d: u8, q: usize, e: u8) -> bool
     let y = p % 32;
     let v = q / 32;
     let w = q % 32;
-    let vertical = ((d == 1) & (e == 2)) & ((distance(y, w) == 1) & (x < v));
-    let horizontal = ((d == 3) & (e == 4)) & ((distance(x, v) == 1) & (y < w));
-    vertical | horizontal
+    if (d == 1) & (e == 2) {
+        return (distance(y, w) == 1) & (x < v);
+    }
+    if (d == 3) & (e == 4) {
+        return (distance(x, v) == 1) & (y < w);
+    }
+    false
 }
 
 pub fn is_near_miss(p: usize, d: u8, q: usize, e: u8) -> bool
