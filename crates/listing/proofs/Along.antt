@@ -8,11 +8,12 @@ use native.Mathlib.Numerals.{add-one, sub-one}
 use native.Mathlib.Omega.{arith}
 use borrow.Author.Tests.{ne-eqb}
 use lib.Dec.{ltb, eqb}
-use lib.ListN.{length, getD, drop, drop-of-length-le}
+use lib.ListN.{length, getD, set, drop, drop-of-length-le}
 use lib.Seq.{drop-cons}
 use Rattle.array.proofs.Bools.{or-false}
-use Rattle.writers.proofs.Runs.{Splits}
+use Rattle.writers.proofs.Runs.{Splits, Run, splits-all, run-start, run-room, run-step, run-end}
 use Rattle.listing.specs.Listing.{along, last-digit, digits}
+use Rattle.listing.specs.Parts.{Room, Wrote}
 
 -- what is left to write from index p on
 abbrev pub along-from : (ℕ → ℕ → List ℕ) → List ℕ → ℕ → List ℕ
@@ -44,10 +45,22 @@ unfolding digits
 digits-last zero v h = refl
 digits-last (suc k) v h = let t : (false || ltb v 10) ≡ true = rw (ne-eqb (suc k) 0 (λ e. omega arith)) at h in rw t
 
-pub digits-room : (k v at : ℕ) (out : List ℕ) → (eqb k 0 || ltb v 10) ≡ true → at + length (digits k v) ≤ length out → at < length out
+pub digits-room : (k v at : ℕ) (out : List ℕ) → (eqb k 0 || ltb v 10) ≡ true → Room out at (digits k v) → at < length out
 digits-room k v at out h l = let r : at + 1 ≤ length out = rw (digits-last k v h) at l in omega arith
 
 pub digits-more : (k v : ℕ) → (eqb k 0 || ltb v 10) ≡ false → Splits (digits k v) (digits (k - 1) (v / 10)) (last-digit v ∷ [])
 unfolding digits
 digits-more zero v h = absurd (true≢false h)
 digits-more (suc k) v h = record { is = rw (or-false (eqb (suc k) 0) (ltb v 10) h .1, sub-one (suc k)) refl }
+
+-- the digits but the last are written; then the last one
+module _ (k v at : ℕ) (out : List ℕ) {next : ℕ} {new : List ℕ} (t : (eqb k 0 || ltb v 10) ≡ false) (h : Room out at (digits k v))
+    (w : Wrote out at (digits (k - 1) (v / 10)) next new) where
+  front : Run out at (digits k v) new next (last-digit v ∷ [])
+  front = run-step (run-start out at (digits k v) h) (digits-more k v t) (w .0) (w .1)
+
+  pub last-room : next < length new
+  last-room = let l : next + 1 ≤ length new = run-room front (splits-all (last-digit v ∷ [])) in omega arith
+
+  pub last-wrote : Wrote out at (digits k v) (next + 1) (set new next (last-digit v))
+  last-wrote = run-end (run-step front (splits-all (last-digit v ∷ [])) refl refl) refl

@@ -4,15 +4,13 @@ use denote.Ref.{now}
 use mathlib.Core.Path.{_≡_, refl}
 use native.Mathlib.Omega.{arith}
 use native.Mathlib.Nat.{pos-of-ne-zero}
-use Prim.Native.Nat.{_≤_}
-use mathlib.Core.List.{[], _∷_}
 use borrow.Author.Needs.{needs}
 use borrow.Author.Tests.{eqb-false}
 use Rattle.array.proofs.Bools.{or-false}
-use Rattle.writers.proofs.Runs.{splits-all, run-start, run-room, run-step, run-end}
-use Rattle.listing.specs.Listing.{last-digit, digits}
-use Rattle.listing.proofs.Along.{digits-last, digits-more, digits-room}
-use Prim.Native.Nat.{ℕ, _<_}
+use Rattle.writers.proofs.Runs.{run-start, run-room}
+use Rattle.listing.specs.Listing.{digits}
+use Rattle.listing.proofs.Along.{digits-last, digits-room, digits-more, last-room, last-wrote}
+use Prim.Native.Nat.{ℕ, _<_, _≤_}
 use borrow.Fn.Kinds.{In}
 use borrow.Fn.PlainCycle.{Measures, is, falls, and}
 use Rattle.listing.proofs.write_digits.Reads as write-digits
@@ -106,23 +104,15 @@ write-digits-slice-write-out-2 : (t : ℕ) → write-digits-lts.Need-slice-write
   write-digits-below t,
   write-digits.Post,
 ) (write-digits-at t) write-digits.Post
-write-digits-slice-write-out-2 t c = let a = c .before .before .before .before .before .before .args in
-    let w = c .before .before .write-digits .ensures in
-    let r = run-start (now (a .out)) (a .at) (digits (a .more) (a .v)) (c .before .before .before .before .before .before .pre .1) in
-    let s = run-step r (digits-more (a .more) (a .v) (c .before .before .before .before .if1 .left)) (w .0) (w .1) in
-    let l = run-room s (splits-all (last-digit (a .v) ∷ [])) in
-    omega arith
+write-digits-slice-write-out-2 t c =
+    let a = c .before .before .before .before .before .before .args in last-room (a .more) (a .v) (a .at) (now (a .out)) (c .before .before .before .before .if1 .left) (c .before .before .before .before .before .before .pre .1) (c .before .before .write-digits .ensures)
 
 write-digits-add-result-2 : (t : ℕ) → write-digits-lts.Need-add-result-2 (
   write-digits-below t,
   write-digits.Post,
 ) (write-digits-at t) write-digits.Post
-write-digits-add-result-2 t c = let a = c .before .before .before .before .before .before .args in
-    let w = c .before .before .write-digits .ensures in
-    let r = run-start (now (a .out)) (a .at) (digits (a .more) (a .v)) (c .before .before .before .before .before .before .pre .1) in
-    let s = run-step r (digits-more (a .more) (a .v) (c .before .before .before .before .if1 .left)) (w .0) (w .1) in
-    let l = run-room s (splits-all (last-digit (a .v) ∷ [])) in
-    search needs
+write-digits-add-result-2 t c =
+    let a = c .before .before .before .before .before .before .args in let l = last-room (a .more) (a .v) (a .at) (now (a .out)) (c .before .before .before .before .if1 .left) (c .before .before .before .before .before .before .pre .1) (c .before .before .write-digits .ensures) in search needs
 
 write-digits-same-length-2 : (t : ℕ) → write-digits-lts.Need-same-length-2 (
   write-digits-below t,
@@ -134,11 +124,8 @@ write-digits-returns-2 : (t : ℕ) → write-digits-lts.Need-returns-2 (
   write-digits-below t,
   write-digits.Post,
 ) (write-digits-at t) write-digits.Post
-write-digits-returns-2 t c = let a = c .before .before .before .before .before .before .args in
-    let w = c .before .before .write-digits .ensures in
-    let r = run-start (now (a .out)) (a .at) (digits (a .more) (a .v)) (c .before .before .before .before .before .before .pre .1) in
-    let s = run-step r (digits-more (a .more) (a .v) (c .before .before .before .before .if1 .left)) (w .0) (w .1) in
-    run-end (run-step s (splits-all (last-digit (a .v) ∷ [])) refl refl) refl
+write-digits-returns-2 t c =
+    let a = c .before .before .before .before .before .before .args in last-wrote (a .more) (a .v) (a .at) (now (a .out)) (c .before .before .before .before .if1 .left) (c .before .before .before .before .before .before .pre .1) (c .before .before .write-digits .ensures)
 
 pub +write-digits-spec : {M : Type 1} → statement M
 +write-digits-spec = close μ-write-digits λ t. write-digits-lts.spec (
