@@ -1,6 +1,5 @@
 -- `paths::do_overlap` meets its contract: four tests, one after the other.
 -- Assumes nothing.
-use mathlib.Core.Path.{_≡_}
 use Prim.Native.Nat.{_≤_, _<_}
 use borrow.Author.Tests.{le-leb, lt-leb}
 use Rattle.paths.specs.Extent.{top, bottom, west-end, east-end, overlap}
