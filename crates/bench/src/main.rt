@@ -1,4 +1,4 @@
-// Reads at most 4,096 bytes of a map from standard input, and prints its listing.
+// Prints the listing of the map file on standard input, of which no more than 4,096 bytes are read.
 use libc::STDIN_FILENO;
 use libc::STDOUT_FILENO;
 use writers::FileWritten;
