@@ -24,10 +24,6 @@ use Rattle.follower.specs.declared.Step.the-variants.{Go, Done}
 use Rattle.track.specs.Ports as track
 use Rattle.track.specs.Link as link
 
-abbrev pub wafer : ℕ → ℕ → List ℕ → List ℕ → List ℕ → List ℕ → Wafer
-wafer n m grid directions across down =
-    record { rows = n; columns = m; grid = grid; directions = directions; across = across; down = down }
-
 -- sizes and buffers as after tests 1 and 2
 pub record Ready (n m : ℕ) (grid directions across down : List ℕ) : Type 0 where
   pub rows : n ≤ 30

@@ -10,10 +10,10 @@ ghost use Prim.Native.Nat.{ℕ, _≤_, _<_};
 ghost use lib.ListN.{length};
 ghost use Rattle.array.specs.Map.{inner-faulty};
 ghost use Rattle.track.specs.Letters.{switch-byte};
-ghost use Rattle.track.specs.Ports.{Wafer, stands, fault-joins, _at_};
+ghost use Rattle.track.specs.Ports.{Wafer, stands, fault-joins, _at_, wafer};
 ghost use Rattle.track.specs.Link.{run, enters, unjoined-at};
 ghost use Rattle.track.specs.Follower.{refused, judged, out-of, switches-test};
-ghost use Rattle.follower.specs.Inner.{wafer, Ready, compass, node, node-of, port-of, Sound-port, opposite, kind-beyond, beyond, before-all, along, Neighbours, Stretches, joining, straight-joins, switch-joins, processor-joins, Finds, fourth, Sound-walk, Steps, passing, entering, leaving, switches-allowed};
+ghost use Rattle.follower.specs.Inner.{Ready, compass, node, node-of, port-of, Sound-port, opposite, kind-beyond, beyond, before-all, along, Neighbours, Stretches, joining, straight-joins, switch-joins, processor-joins, Finds, fourth, Sound-walk, Steps, passing, entering, leaving, switches-allowed};
 
 // A port: of a processor (kind 0), an across switch (1) or a down switch (2), by its row and column, on a side (W, E, N, S are 0 to 3).
 pub struct Port {

@@ -18,7 +18,7 @@ use Rattle.trials.specs.Search.{T, planned}
 use Rattle.trials.specs.declared.Outcome.the-variants.{Repaired, Beyond, Spent}
 use Rattle.track.specs.Placement.{placement}
 use Rattle.track.specs.Letters.{across-letters, down-letters}
-use Rattle.track.specs.Ports.{Wafer, Compass, Port}
+use Rattle.track.specs.Ports.{Wafer, wafer, Compass, Port}
 use Rattle.track.specs.Link.{Trail, Link, Enters, switches}
 use Rattle.track.specs.Pieces.{Piece, pieces, Same}
 use Rattle.track.specs.Follower.{position-of, out-of, landing}
@@ -40,7 +40,7 @@ pub record Given : Type 0 where
   pub across : List ℕ
   pub down : List ℕ
 
--- the map is well-formed, the limit is a u32, and all buffers of the run pass 2
+-- the map is well-formed, the limit is a u32, and every lent buffer has 1,024 elements
 pub record Good (g : Given) : Type 0 where
   pub map : well-formed (g .n) (g .m) (g .grid) ≡ Accepted
   pub u32 : g .limit < 4294967296
@@ -66,14 +66,9 @@ routing g = route-switches (g .n) (g .m) (g .grid) (planned-directions g) (g .ac
 -- the wafer that the follower is given
 abbrev pub routed : Given → Wafer
 routed g =
-    record {
-      rows = g .n;
-      columns = g .m;
-      grid = g .grid;
-      directions = planned-directions g;
-      across = across-after (g .n) (g .m) (g .grid) (planned-directions g) (g .across) (g .down);
-      down = down-after (g .n) (g .m) (g .grid) (planned-directions g) (g .across) (g .down);
-    }
+    wafer (g .n) (g .m) (g .grid) (planned-directions g)
+    (across-after (g .n) (g .m) (g .grid) (planned-directions g) (g .across) (g .down))
+    (down-after (g .n) (g .m) (g .grid) (planned-directions g) (g .across) (g .down))
 
 abbrev pub following : Given → ℕ → ℕ → ℕ → Followed
 following g i j side = follow-link (routed g) (position i j) side
@@ -107,7 +102,7 @@ pub record Reached (g : Given) (i j side k l : ℕ) (port : Compass) : Type 0 wh
   pub by-port : end .side ≡ port
   pub few : switches link ≤ 3
 
--- a link to a neighbour, named by its cell and side, and all the pieces that it runs over
+-- a link to a neighbour, named by its cell and side
 pub record Neighbour-link (g : Given) : Type 0 where
   pub i : ℕ
   pub j : ℕ
@@ -119,6 +114,7 @@ pub record Neighbour-link (g : Given) : Type 0 where
   pub link : Trail
   pub is-link : Link (routed g) (out g i j side) link
 
+-- all the pieces that it runs over
 abbrev pub pieces-of : (g : Given) → Neighbour-link g → List Piece
 pieces-of g u = pieces (out g (u .i) (u .j) (u .side)) (u .link)
 

@@ -38,12 +38,13 @@ unfoldable pub directions-after : ℕ → ℕ → List ℕ → List ℕ → ℕ 
 directions-after n m grid directions limit =
     written (plan-repair-test n m grid directions) (directions-written limit (faults n m grid) (planned n m grid)) directions
 
--- the kind of outcome (0 repaired, 1 beyond repair, 2 spent) and the count that it carries, or the refusal
+-- the kind of outcome (0 repaired, 1 beyond repair, 2 spent) and the count that it carries
 abbrev pub outcome-told : Outcome → Told
 outcome-told (Repaired t) = accepts (0 ∷ t ∷ [])
 outcome-told (Beyond t) = accepts (1 ∷ t ∷ [])
 outcome-told (Spent limit) = accepts (2 ∷ limit ∷ [])
 
+-- the outcome, or the refusal
 abbrev pub told : Answer → Told
 told (Planned o) = outcome-told o
 told (Refused r) = refuses-as r

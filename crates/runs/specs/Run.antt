@@ -13,10 +13,9 @@ use Rattle.array.specs.Map.{map-test}
 use Rattle.array.specs.declared.Verdict.{Verdict}
 use Rattle.array.specs.declared.Verdict.the-variants.{Accepted}
 use Rattle.trials.specs.declared.Outcome.the-variants.{Repaired, Beyond, Spent}
-use Rattle.track.specs.Ports.{Wafer}
+use Rattle.track.specs.Ports.{Wafer, wafer}
 use Rattle.track.specs.Follower.{by-side}
 use Rattle.track.specs.declared.Followed.{Followed}
-use Rattle.follower.specs.Inner.{wafer}
 use Rattle.repair.specs.Operations.{told, place-cells, places-after, route-switches, across-after, down-after, follow-link}
 use Rattle.repair.specs.Demand3.{Given, Good, answer, planned-directions, places-held, routed, Demand3}
 use Rattle.repair.specs.declared.Answer.{Answer}
@@ -51,7 +50,7 @@ unless-refused (verdict.Refused r) a = Refused r
 unfoldable pub run-answer : Given → Answer
 run-answer g = unless-refused (run-test g) (answer g)
 
--- what the planner leaves in the direction buffer
+-- the direction buffer: as the planner leaves it, or as lent where the tests refuse
 unfoldable pub run-directions : Given → List ℕ
 run-directions g = written (run-test g) (planned-directions g) (g .directions)
 
@@ -61,18 +60,18 @@ is-repaired (Planned (Beyond t)) = false
 is-repaired (Planned (Spent limit)) = false
 is-repaired (Refused r) = false
 
--- Placement, routing and follower are called after `repaired`; otherwise their buffers stay as they were.
-abbrev pub after-repaired : {A : Type 0} → Given → A → A → A
-after-repaired g new old = cond (is-repaired (run-answer g)) new old
+-- Placement, routing and follower are called after `repaired`. Otherwise the placement and the switch buffers stay as they were.
+abbrev pub if-repaired : {A : Type 0} → Given → A → A → A
+if-repaired g new old = cond (is-repaired (run-answer g)) new old
 
 unfoldable pub run-places : Given → List ℕ
-run-places g = after-repaired g (places-held g) (g .places)
+run-places g = if-repaired g (places-held g) (g .places)
 
 unfoldable pub run-across : Given → List ℕ
-run-across g = after-repaired g (routed g .across) (g .across)
+run-across g = if-repaired g (routed g .across) (g .across)
 
 unfoldable pub run-down : Given → List ℕ
-run-down g = after-repaired g (routed g .down) (g .down)
+run-down g = if-repaired g (routed g .down) (g .down)
 
 -- The links to a neighbour: p is a cell, and its right neighbour (side 0) or its lower one (side 1) is a cell too.
 abbrev pub has-neighbour : ℕ → ℕ → ℕ → ℕ → Bool
@@ -99,11 +98,12 @@ links-reached w places side = length (positions-in (reached w places side) (w .g
 abbrev pub all-reached : Wafer → List ℕ → ℕ
 all-reached w places = links-reached w places 0 + links-reached w places 1
 
--- how many of all links are found to reach their neighbour; none where placement or routing refuses
+-- none where a call refuses
 abbrev pub unless-refused-count : Verdict → ℕ → ℕ
 unless-refused-count verdict.Accepted k = k
 unless-refused-count (verdict.Refused r) k = 0
 
+-- how many of all links are found to reach their neighbour, once placement and routing have been called
 unfoldable pub links-found : ℕ → ℕ → List ℕ → List ℕ → List ℕ → List ℕ → List ℕ → ℕ
 links-found n m grid directions places across down =
     unless-refused-count (or-else (place-cells n m grid directions places) (route-switches n m grid directions across down))
@@ -113,14 +113,15 @@ links-found n m grid directions places across down =
 
 unfoldable pub run-links : Given → ℕ
 run-links g =
-    after-repaired g (links-found (g .n) (g .m) (g .grid) (planned-directions g) (g .places) (g .across) (g .down)) 0
+    if-repaired g (links-found (g .n) (g .m) (g .grid) (planned-directions g) (g .places) (g .across) (g .down)) 0
 
 -- how many links to a neighbour an N x M array has: to the right and to the lower one
 abbrev pub link-count : ℕ → ℕ → ℕ
 link-count n m = n * (m - 1) + m * (n - 1)
 
--- A run's result r, and its buffers afterwards: each is as defined. Where the tests pass, what demand 3 asks of the arguments holds, and
--- demand 3 with it; after `repaired` the follower has found every link to a neighbour to reach it.
+-- A run's result r, and its buffers afterwards: each is as defined. Where the tests pass, what demand 3 asks of the arguments holds, demand 3
+-- with it, and r and the directions are what it speaks of. After `repaired` the other buffers are too, and the follower has found
+-- every link to a neighbour to reach it.
 pub record Ran-as (g : Given) (r : Ran) (directions places across down : List ℕ) : Type 0 where
   pub answers : told (r .answer) ≡ told (run-answer g)
   pub counts : r .links ≡ run-links g
@@ -129,4 +130,6 @@ pub record Ran-as (g : Given) (r : Ran) (directions places across down : List �
   pub across-are : across ≡ run-across g
   pub down-are : down ≡ run-down g
   pub demand-3 : run-test g ≡ Accepted → Good g × Demand3 g
-  pub every-link : is-repaired (run-answer g) ≡ true → run-links g ≡ link-count (g .n) (g .m)
+  pub spoken-of : run-test g ≡ Accepted → (r .answer ≡ answer g) × (directions ≡ planned-directions g)
+  pub after-repaired : is-repaired (r .answer) ≡ true
+      → (places ≡ places-held g) × (across ≡ routed g .across) × (down ≡ routed g .down) × (r .links ≡ link-count (g .n) (g .m))

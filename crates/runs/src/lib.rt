@@ -6,11 +6,11 @@ use trials::Outcome;
 ghost use mathlib.Core.Path.{_≡_};
 ghost use Prim.Native.Nat.{_≤_, _<_};
 ghost use lib.ListN.{length};
-ghost use Rattle.follower.specs.Inner.{wafer};
+ghost use Rattle.track.specs.Ports.{wafer};
 ghost use Rattle.repair.specs.Operations.{places-after, across-after, down-after};
 ghost use Rattle.runs.specs.Run.{given, is-repaired, has-neighbour, neighbour-of, arrives-at, reached, links-reached, all-reached, links-found, Ran-as};
 
-// What a run answers: the planner's answer, and how many links to a neighbour the follower found to reach it.
+// What a run answers: the refusal of its tests or the planner's answer, and how many links to a neighbour the follower found to reach it.
 pub struct Ran {
     pub answer: Answer,
     pub links: usize,
@@ -50,7 +50,7 @@ fn neighbour(side: usize, p: usize) -> usize
     if side == 0 { p + 1 } else { p + 32 }
 }
 
-// Whether the follower's answer is that the link enters at q, by the right port, over at most three switches.
+// Whether the follower's answer is that the link enters at q, by the port of its side (W or N), over at most three switches.
 fn arrives(q: usize, side: usize, f: Followed) -> bool
     requires { ⌜ side < 2 ⌝ }
     ensures { λ r. ⌜ r ≡ arrives-at q side f ⌝ }
@@ -152,7 +152,8 @@ fn complete(
     count_all(n, m, grid, directions, places, across, down)
 }
 
-// One run: the plan, and after `repaired` the placement, the switches and every link to a neighbour followed.
+// One run: the plan, and after `repaired` the placement, the switches and every link to a neighbour followed. After beyond repair and
+// spent, `places`, `across` and `down` stay as they were lent.
 pub fn repair_run(
     n: usize,
     m: usize,

@@ -20,6 +20,10 @@ pub record Wafer : Type 0 where
   pub across : List ℕ
   pub down : List ℕ
 
+abbrev pub wafer : ℕ → ℕ → List ℕ → List ℕ → List ℕ → List ℕ → Wafer
+wafer n m grid directions across down =
+    record { rows = n; columns = m; grid = grid; directions = directions; across = across; down = down }
+
 pub data Compass : Type 0 where
   W E N S : Compass
 

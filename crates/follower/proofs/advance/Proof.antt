@@ -1,8 +1,8 @@
 -- `follower::advance` meets its contract.
 -- Assumes nothing.
 use denote.Ref.{now}
-use Rattle.track.specs.Ports.{Wafer, stretch-from}
-use Rattle.follower.specs.Inner.{wafer, port-of}
+use Rattle.track.specs.Ports.{Wafer, stretch-from, wafer}
+use Rattle.follower.specs.Inner.{port-of}
 use Rattle.follower.proofs.Judging.{no-way, on-way}
 use borrow.Author.Needs.{needs}
 use Rattle.follower.proofs.advance.Statement.{statement}

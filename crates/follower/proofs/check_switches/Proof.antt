@@ -6,9 +6,8 @@ use mathlib.Core.List.{List, []}
 use Prim.Native.Nat.{ℕ, _-_}
 use lib.ListN.{length}
 use Rattle.array.proofs.Scans.{Seeking, element-test, from-position, buffer-scan, seek-start, seek-stop-if, seek-pass-if, seek-none}
-use Rattle.track.specs.Ports.{Wafer}
+use Rattle.track.specs.Ports.{Wafer, wafer}
 use Rattle.track.specs.Follower.{switch-test, switches-test}
-use Rattle.follower.specs.Inner.{wafer}
 use native.Mathlib.Omega.{arith}
 use borrow.Author.Needs.{needs}
 use Rattle.follower.proofs.check_switches.Statement.{statement}

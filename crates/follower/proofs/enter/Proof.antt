@@ -1,8 +1,8 @@
 -- `follower::enter` meets its contract, by what is inside.
 -- Assumes nothing.
 use denote.Ref.{now}
-use Rattle.track.specs.Ports.{Wafer}
-use Rattle.follower.specs.Inner.{wafer, port-of}
+use Rattle.track.specs.Ports.{Wafer, wafer}
+use Rattle.follower.specs.Inner.{port-of}
 use Rattle.follower.proofs.Judging.{at-end, at-join, at-stop}
 use borrow.Author.Needs.{needs}
 use Rattle.follower.proofs.enter.Statement.{statement}

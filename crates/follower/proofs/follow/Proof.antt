@@ -3,10 +3,10 @@
 use mathlib.Core.Path.{_≡_, sym, ap, _∙_}
 use denote.Ref.{now}
 use Prim.Native.Nat.{suc, _-_}
-use Rattle.track.specs.Ports.{Wafer, Compass, _at_}
+use Rattle.track.specs.Ports.{Wafer, Compass, _at_, wafer}
 use Rattle.track.specs.Link.{run}
 use Rattle.track.specs.Follower.{processor-of, out-of, judged}
-use Rattle.follower.specs.Inner.{wafer, port-of, Sound-walk}
+use Rattle.follower.specs.Inner.{port-of, Sound-walk}
 use Rattle.follower.proofs.Judging.{out-side, none-left}
 use native.Mathlib.Omega.{arith}
 use borrow.Author.Needs.{needs}

@@ -9,7 +9,7 @@ use Rattle.array.specs.Buffer.{long}
 use Rattle.array.proofs.Bools.{and-true, and-one}
 use Rattle.plans.proofs.Tested.{tested-map, tested-directions}
 use Rattle.track.specs.Follower.{told}
-use Rattle.follower.specs.Inner.{wafer}
+use Rattle.track.specs.Ports.{wafer}
 use Rattle.repair.specs.Operations.{link-tests, follow-test, follow-link}
 use Rattle.repair.proofs.Calls.{front-long, back-long, follow-refused, follow-accepted, link-tested}
 use Rattle.repair.proofs.follow_link.Statement.{statement}

@@ -9,7 +9,7 @@ use denote.Ref.{now}
 use lib.ListN.{length, getD}
 use Rattle.track.specs.Link.{run}
 use Rattle.track.specs.Follower.{out-of, seat-of, judged, followed}
-use Rattle.follower.specs.Inner.{wafer}
+use Rattle.track.specs.Ports.{wafer}
 use Rattle.repair.proofs.Cells.{cell-low, placement-long, placement-at, seat-low}
 use Rattle.repair.proofs.follow_within.Statement.{statement}
 use Rattle.repair.proofs.follow_within.Tie as tie

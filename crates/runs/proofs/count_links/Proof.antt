@@ -4,7 +4,7 @@ use mathlib.Core.Logic.{⊎-elim}
 use Prim.Native.Nat.{_-_}
 use native.Mathlib.Omega.{arith}
 use Rattle.array.proofs.Counts.{Counting, count-start, count-take, count-skip, count-end}
-use Rattle.follower.specs.Inner.{wafer}
+use Rattle.track.specs.Ports.{wafer}
 use Rattle.runs.specs.Run.{reached, links-reached}
 use Rattle.runs.proofs.count_links.Statement.{statement}
 use Rattle.runs.proofs.count_links.Tie as tie

@@ -7,7 +7,7 @@ use borrow.Author.Needs.{needs}
 use borrow.Author.Tests.{not-false}
 use denote.Ref.{now}
 use lib.ListN.{getD}
-use Rattle.follower.specs.Inner.{wafer}
+use Rattle.track.specs.Ports.{wafer}
 use Rattle.repair.specs.Operations.{follow-link}
 use Rattle.repair.proofs.Answers.{answers-kept}
 use Rattle.runs.specs.Run.{neighbour-of, arrives-at}
