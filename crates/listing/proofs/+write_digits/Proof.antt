@@ -10,7 +10,7 @@ use Rattle.array.proofs.Bools.{or-false}
 use Rattle.writers.proofs.Runs.{run-start, run-room}
 use Rattle.listing.specs.Listing.{digits}
 use Rattle.listing.proofs.Along.{digits-last, digits-room, digits-more, last-room, last-wrote}
-use Prim.Native.Nat.{ℕ, _≤_}
+use Prim.Native.Nat.{ℕ, _<_, _≤_}
 use borrow.Fn.Kinds.{In}
 use borrow.Fn.PlainCycle.{Measures, is, falls, and}
 use Rattle.listing.proofs.write_digits.Reads as write-digits
