@@ -1,5 +1,6 @@
 -- The four directions as cases, and what a start says.
 -- Assumes nothing.
+use mathlib.Core.Path.{_≡_}
 use Prim.Native.Nat.{ℕ, zero, suc, _≤_}
 use native.Mathlib.Omega.{arith}
 use Rattle.array.proofs.Places.{Inner, inner-holds}
@@ -25,3 +26,7 @@ start-inner {n} {m} {p} s = inner-holds n m p (s .at)
 
 pub start-way : {n m p d : ℕ} → Start n m p d → Way d
 start-way {d = d} s = way d (s .low) (s .high)
+
+-- a direction that is none of the first three is west
+pub west-left : {n m p d : ℕ} → Start n m p d → (d ≡ 1 → ⊥) → (d ≡ 2 → ⊥) → (d ≡ 3 → ⊥) → d ≡ 4
+west-left s a b c = omega (arith, s .low, s .high, a, b, c)

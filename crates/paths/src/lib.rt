@@ -26,7 +26,12 @@ pub fn length_of(n: usize, m: usize, p: usize, d: u8) -> usize
 {
     let x = p / 32;
     let y = p % 32;
-    choose(d, n + 2 - x, x + 1, m + 2 - y, y + 1, 0)
+    match d {
+        1 => n + 2 - x,
+        2 => x + 1,
+        3 => m + 2 - y,
+        _ => y + 1,
+    }
 }
 
 // The k-th processor of a path, its start being the 0th.

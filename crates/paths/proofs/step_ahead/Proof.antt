@@ -3,7 +3,7 @@
 use mathlib.Core.Path.{_≡_, subst}
 use Prim.Native.Nat.{ℕ, _<_}
 use Rattle.paths.specs.Path.{path-length}
-use Rattle.paths.proofs.Ways.{start-inner}
+use Rattle.paths.proofs.Ways.{start-inner, west-left}
 use native.Mathlib.Omega.{arith}
 use Rattle.paths.proofs.step_ahead.Statement.{statement}
 use Rattle.paths.proofs.step_ahead.Tie as tie
@@ -12,8 +12,7 @@ within : (s : tie.Start) (k : ℕ) → s .args .d ≡ k → s .args .k < path-le
 within s k e = subst (λ (z : ℕ). s .args .k < path-length (s .args .n) (s .args .m) (s .args .p) z) e (s .pre .1)
 
 west : (c : tie.At-match-rest) → c .before .args .d ≡ 4
-west c =
-    omega (arith, c .before .pre .0 .low, c .before .pre .0 .high, c .match .rest .1, c .match .rest .0 .1, c .match .rest .0 .0 .1)
+west c = let r = c .match .rest in west-left (c .before .pre .0) (r .0 .0 .1) (r .0 .1) (r .1)
 
 mul-result : tie.Need-mul-result
 mul-result c = omega (arith, start-inner (c .before .pre .0), within (c .before) 1 (c .match .keys1))
