@@ -61,7 +61,7 @@ pub fn is_open(n: usize, m: usize, grid: &[u8], p: usize, d: u8) -> bool
     true
 }
 
-// Whether the rows and the columns that two paths take up overlap.
+// Whether the rows and the columns that two paths take up overlap. The last test decides only where q starts above p.
 fn do_overlap(n: usize, m: usize, p: usize, d: u8, q: usize, e: u8) -> bool
     requires { ⌜ (n ≤ 30) × (m ≤ 30) ⌝ }
     ensures { λ r. ⌜ r ≡ overlap n m p d q e ⌝ }
@@ -70,16 +70,16 @@ fn do_overlap(n: usize, m: usize, p: usize, d: u8, q: usize, e: u8) -> bool
     let y = p % 32;
     let v = q / 32;
     let w = q % 32;
-    if choose(e, n + 1, v, v, v, v) < choose(d, x, 0, x, x, x) {
-        return false;
-    }
     if choose(d, n + 1, x, x, x, x) < choose(e, v, 0, v, v, v) {
         return false;
     }
     if choose(e, w, w, m + 1, w, w) < choose(d, y, y, y, 0, y) {
         return false;
     }
-    choose(e, w, w, w, 0, w) <= choose(d, y, y, m + 1, y, y)
+    if choose(d, y, y, m + 1, y, y) < choose(e, w, w, w, 0, w) {
+        return false;
+    }
+    choose(d, x, 0, x, x, x) <= choose(e, n + 1, v, v, v, v)
 }
 
 // Whether two paths share a processor.
