@@ -30,21 +30,30 @@ pub fn is_size(k: usize) -> bool
 pub fn is_inner_at(n: usize, m: usize, x: usize, y: usize) -> bool
     ensures { λ r. ⌜ r ≡ inner-at n m x y ⌝ }
 {
-    ((1 <= x) & (x <= n)) & ((1 <= y) & (y <= m))
+    if (1 <= x) & (x <= n) {
+        return (1 <= y) & (y <= m);
+    }
+    false
 }
 
 fn is_corner_at(n: usize, m: usize, x: usize, y: usize) -> bool
     requires { ⌜ (n ≤ 30) × (m ≤ 30) ⌝ }
     ensures { λ r. ⌜ r ≡ corner-at n m x y ⌝ }
 {
-    ((x == 0) | (x == n + 1)) & ((y == 0) | (y == m + 1))
+    if (x == 0) | (x == n + 1) {
+        return (y == 0) | (y == m + 1);
+    }
+    false
 }
 
 pub fn is_processor_at(n: usize, m: usize, x: usize, y: usize) -> bool
     requires { ⌜ (n ≤ 30) × (m ≤ 30) ⌝ }
     ensures { λ r. ⌜ r ≡ processor-at n m x y ⌝ }
 {
-    ((x <= n + 1) & (y <= m + 1)) & !is_corner_at(n, m, x, y)
+    if (x <= n + 1) & (y <= m + 1) {
+        return !is_corner_at(n, m, x, y);
+    }
+    false
 }
 
 pub fn is_inner(n: usize, m: usize, p: usize) -> bool

@@ -1,3 +1,4 @@
 pub mod Answers
 pub mod Elements
 pub mod RoundTrip
+pub mod Sound

@@ -1,2 +1,3 @@
 pub mod RoundTrip
 pub mod Answers
+pub mod Sound

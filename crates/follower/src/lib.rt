@@ -134,14 +134,16 @@ fn is_standing(n: usize, m: usize, kind: u8, x: usize, y: usize) -> bool
     requires { ⌜ (n ≤ 30) × (m ≤ 30) × (x ≤ 32) × (y ≤ 32) ⌝ }
     ensures { λ r. ⌜ r ≡ stands n m (node kind x y) ⌝ }
 {
-    let here = array::is_processor_at(n, m, x, y);
+    if !array::is_processor_at(n, m, x, y) {
+        return false;
+    }
     if kind == 0 {
-        return here;
+        return true;
     }
     if kind == 1 {
-        return here & array::is_processor_at(n, m, x, y + 1);
+        return array::is_processor_at(n, m, x, y + 1);
     }
-    here & array::is_processor_at(n, m, x + 1, y)
+    array::is_processor_at(n, m, x + 1, y)
 }
 
 // Inner part: the port at the other end of the stretch from a port.

@@ -38,6 +38,11 @@ abbrev pub read-or : {A : Type 0} → Number → (ℕ → ℕ → A) → (Refusa
 read-or (Read v next) f g = f v next
 read-or (Refused r) f g = g r
 
+-- the refusal of a number that is not read; of one that is read, a refusal with number 0, which no call returns
+abbrev pub refusal-of : Number → Refusal
+refusal-of (Read v next) = refusal 0 0 0
+refusal-of (Refused r) = r
+
 -- 1 at N and M: outside 1 to 30; place is the number's start
 unfoldable pub size-at : List ℕ → ℕ → Number
 size-at s at = read-or (number-at s at) (λ v next. cond (size v) (Read v next) (refused 1 at)) Refused

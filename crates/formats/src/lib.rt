@@ -4,10 +4,8 @@ ghost use mathlib.Core.Path.{_≡_};
 ghost use Prim.Native.Nat.{ℕ, _+_, _<_, _≤_};
 ghost use lib.ListN.{length};
 ghost use lib.Seq.{sets};
-ghost use Rattle.formats.specs.Number.{told, number-at, bytes-of};
+ghost use Rattle.formats.specs.Number.{told, number-at, bytes-of, refusal-of};
 ghost use Rattle.formats.specs.Records.{recorded};
-ghost use Rattle.array.specs.declared.Refusal.{Refusal};
-ghost use Rattle.formats.specs.declared.Number.the-variants.{Refused};
 
 // What reading a number answers: its value with the offset behind it, or the refusal.
 pub enum Number {
@@ -63,7 +61,7 @@ pub fn read_number(s: &[u8], at: usize) -> Number
 
 // Inner part: the refusal of a number that is not read.
 pub fn refusal_of(a: Number) -> Refusal
-    ensures { λ r. ⌜ ((e : Refusal) → a ≡ Refused e → r ≡ e) ⌝ }
+    ensures { λ r. ⌜ r ≡ refusal-of a ⌝ }
 {
     match a {
         Number::Read(_, _) => Refusal {

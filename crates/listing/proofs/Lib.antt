@@ -4,3 +4,4 @@ pub mod Cases
 pub mod Fits
 pub mod Reports
 pub mod Examples
+pub mod Planned

@@ -8,12 +8,12 @@ use native.Mathlib.Omega.{arith}
 use lib.ListN.{length, take, drop}
 use lib.Seq.{sets, sets-eq, length-sets, take-append-seam}
 use Rattle.array.specs.Tests.{refusal}
-use Rattle.array.specs.declared.Refusal.{Refusal}
-use Rattle.array.proofs.Bools.{by-lt}
 use Rattle.writers.specs.Writing.{told}
 use Rattle.writers.specs.declared.FileWritten.{FileWritten}
 use Rattle.writers.specs.declared.FileWritten.the-variants.{Length, Refused}
 use Rattle.writers.proofs.Accepted.{put-short, put-stored}
+use Rattle.writers.proofs.Within.{put-within}
+use Rattle.array.specs.declared.Verdict.the-variants.{Accepted}
 use Rattle.listing.specs.Listing.{listing, reported}
 use Rattle.listing.specs.Parts.{Wrote}
 
@@ -40,17 +40,5 @@ module _ (s out : List ℕ) {r : ℕ} where
 
 -- a length that is answered is within the buffer
 module _ (s out : List ℕ) where
-  never-both : (k : ℕ) (r : Refusal) → told (Length k) ≡ told (Refused r) → ⊥
-  never-both k r h = let z : _≡_ {A = ℕ} 0 1 = cc in omega arith
-
   pub answer-within : (r : FileWritten) (k : ℕ) → told r ≡ told (reported s out .0) → r ≡ Length k → k ≤ length out
-  answer-within r k e h =
-      by-lt (length out) (length (listing s))
-      (λ l.
-      absurd (never-both k (refusal 14 (length (listing s)) 0)
-      (ap told (sym h) ∙ e ∙ ap (λ (x : FileWritten × List ℕ). told (x .0)) (put-short (listing s) out l))))
-      (λ l.
-      let f : told (Length k) ≡ told (Length (length (listing s))) =
-      ap told (sym h) ∙ e ∙ ap (λ (x : FileWritten × List ℕ). told (x .0)) (put-stored (listing s) out l) in
-      let g : k ≡ length (listing s) = cc in
-      omega arith)
+  answer-within r k e h = put-within (listing s) out r k h Accepted e

@@ -1,6 +1,7 @@
 -- Document 01, "The bench program": the bytes of the listing of a map file, from the bytes of the file alone.
 -- Assumes nothing.
 use Prim.Native.Nat.{ℕ, zero, suc, _+_, _/_, _%_, _≤_}
+use mathlib.Core.Path.{_≡_}
 use mathlib.Core.Bool.{cond}
 use mathlib.Core.List.{List, [], _∷_, _++_}
 use lib.Dec.{ltb, eqb}
@@ -10,6 +11,8 @@ use Rattle.array.specs.Buffer.{zeros}
 use Rattle.array.specs.Map.{inner-faulty}
 use Rattle.array.specs.declared.Refusal.{Refusal}
 use Rattle.paths.specs.Path.{by-direction}
+use Rattle.plans.specs.Faults.{faults}
+use Rattle.trials.specs.Search.{planned, outcome, directions-written}
 use Rattle.trials.specs.declared.Outcome.{Outcome}
 use Rattle.trials.specs.declared.Outcome.the-variants.{Repaired, Beyond, Spent}
 use Rattle.repair.specs.Operations.{plan-repair, directions-after, places-after, across-after, down-after}
@@ -160,3 +163,13 @@ reported s out = put (room-test (listing s) out) (listing s) out
 -- the statement that a buffer of 32,768 bytes has room for every listing
 abbrev pub Listing-fits : Type 0
 Listing-fits = (s : List ℕ) → length (listing s) ≤ 32768
+
+-- the statement that a map that was read is planned, never refused: its lines are the first one and those of the trials' outcome
+abbrev pub Maps-listed : Type 0
+Maps-listed =
+    (s grid : List ℕ) (head : Head) → read-map s zeros ≡ (reader.File head, grid)
+    → listing s
+    ≡ head-line head
+    ++ outcome-lines (head .rows) (head .columns) grid
+    (directions-written limit (faults (head .rows) (head .columns) grid) (planned (head .rows) (head .columns) grid))
+    (outcome limit (planned (head .rows) (head .columns) grid))

@@ -42,16 +42,19 @@ module _ (s : List ℕ) (at : ℕ) where
     unfolding size-at
     size-bad t = rw q (cond-left (Read v next) (refused 1 at) refl t)
 
-  -- a size that was read is at most 30
-  pub size-bound : (v next : ℕ) → size-at s at ≡ Read v next → v ≤ 30
-  size-bound v next q = bound (number-at s at) refl
+  -- a size that was read is one, so it is at most 30
+  pub size-read : (v next : ℕ) → size-at s at ≡ Read v next → size v ≡ true
+  size-read v next q = by-number (number-at s at) refl
     where
-      bound : (x : Number) → number-at s at ≡ x → v ≤ 30
-      bound (Refused e) h = absurd (let z : _≡_ {A = ℕ} 0 1 = cc (size-refused e h) in omega arith)
-      bound (Read w k) h =
+      by-number : (x : Number) → number-at s at ≡ x → size v ≡ true
+      by-number (Refused e) h = absurd (let z : _≡_ {A = ℕ} 0 1 = cc (size-refused e h) in omega arith)
+      by-number (Read w k) h =
           by-bool (size w)
-          (λ t. let l : w ≤ 30 = leb-true w 30 (and-true (leb 1 w) (leb w 30) t .1) in let z : w ≡ v = cc (size-good w k h t) in omega arith)
+          (λ t. let z : w ≡ v = cc (size-good w k h t) in rw z at t)
           (λ t. absurd (let z : _≡_ {A = ℕ} 0 1 = cc (size-bad w k h t) in omega arith))
+
+  pub size-bound : (v next : ℕ) → size-at s at ≡ Read v next → v ≤ 30
+  size-bound v next q = leb-true v 30 (and-true (leb 1 v) (leb v 30) (size-read v next q) .1)
 
 -- a blank buffer, by its positions
 pub blank-is : (kind : Kind) (n m : ℕ) → blank kind n m ≡ buffer (blank-mark kind n m)
@@ -133,7 +136,7 @@ module _ (kind : Kind) (s : List ℕ) (n m k at : ℕ) (b : List ℕ) where
   unfolding records-at
   more-suc next c q = rw q
 
-  stop-suc :
+  pub stop-suc :
       (e : Refusal) (c : List ℕ) →
       record-at kind s n m at b ≡ (step.Refused e, c) →
       records-at kind s n m (suc k) at b ≡ (step.Refused e, c)

@@ -28,15 +28,15 @@ told (Refused r) = refuses-as r
 abbrev pub no-record : ℕ → ℕ → List ℕ → Step × List ℕ
 no-record k at b = (step.Refused (refusal k at 0), b)
 
--- A fault (x, y) is marked in a grid. 10: it isn't a processor. 11: a record repeats a position.
+-- A fault (x, y) is marked in a grid. 10: there is no processor. 11: the position is marked already.
 abbrev pub mark-fault : ℕ → ℕ → ℕ → ℕ → ℕ → ℕ → List ℕ → Step × List ℕ
 mark-fault n m at x y next grid =
     cond (processor-at n m x y)
     (cond (faulty grid (position x y)) (no-record 11 at grid) (step.Next next, set grid (position x y) 1))
     (no-record 10 at grid)
 
--- The path of direction d from (x, y) is marked among the directions. 10: its start isn't inner. 11: a record repeats a position.
--- 13: the direction is outside 1 to 4.
+-- The path of direction d from (x, y) is marked among the directions. 10: it starts off the inner positions. 11: that position has one already.
+-- 13: d is none of the four directions.
 abbrev pub mark-path : ℕ → ℕ → ℕ → ℕ → ℕ → ℕ → ℕ → List ℕ → Step × List ℕ
 mark-path n m at x y d next directions =
     cond (inner-at n m x y)

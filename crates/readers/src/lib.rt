@@ -110,7 +110,7 @@ fn may_write(kind: Kind, v: u32) -> bool
 }
 
 // Judges the record of row x and column y that starts at an offset and ends before `next`, and writes its value v.
-fn mark(
+fn mark_one(
     kind: Kind,
     n: usize,
     m: usize,
@@ -148,6 +148,27 @@ fn mark(
     }
     b[p] = v as u8;
     Step::Next(next)
+}
+
+// The same; each kind has a call of its own, so that it is compiled by itself.
+fn mark(
+    kind: Kind,
+    n: usize,
+    m: usize,
+    at: usize,
+    x: usize,
+    y: usize,
+    v: u32,
+    next: usize,
+    b: &mut [u8],
+) -> Step
+    requires { ⌜ (n ≤ 30) × (m ≤ 30) × (length (now b) ≡ 1024) ⌝ }
+    ensures { λ r. ⌜ (r, now (b .exit)) ≡ marked kind n m at x y v next (now (b .entry)) ⌝ }
+{
+    match kind {
+        Kind::Map => mark_one(Kind::Map, n, m, at, x, y, v, next, b),
+        Kind::Plan => mark_one(Kind::Plan, n, m, at, x, y, v, next, b),
+    }
 }
 
 // Reads the record at an offset into a buffer.

@@ -49,6 +49,13 @@ right-pieces : pieces (out-of (seat-of bench 33) 0) (run bench 7 (out-of (seat-o
 unfolding grid-of directions-of direction-of span member path positions-along faults directions-at paired through letters entry letter across-letters down-letters neighbour stands stretch-from joins-nothing joined inside run judged followed pieces
 right-pieces = refl
 
+beside-pieces : pieces (out-of (seat-of bench 65) 0) (run bench 7 (out-of (seat-of bench 65) 0))
+    ≡ stretch (Processor 3 1 at E) (Across 3 1 at W) ∷ join (Across 3 1) W N
+    ∷ stretch (Across 3 1 at N) (Across 2 1 at S) ∷ join (Across 2 1) S E
+    ∷ stretch (Across 2 1 at E) (Processor 2 2 at W) ∷ []
+unfolding grid-of directions-of direction-of span member path positions-along faults directions-at paired through letters entry letter across-letters down-letters neighbour stands stretch-from joins-nothing joined inside run judged followed pieces
+beside-pieces = refl
+
 three-down : followed level 33 1 ≡ Entered (record { position = 64; port = 2; switches = 3 })
 unfolding grid-of directions-of direction-of span member path positions-along faults directions-at paired through letters entry letter across-letters down-letters neighbour stands stretch-from joins-nothing joined inside run judged followed
 three-down = refl
@@ -116,6 +123,7 @@ followed-examples =
       lower = lower;
       three = three;
       right-pieces = right-pieces;
+      beside-pieces = beside-pieces;
       three-down = three-down;
       right-beside = right-beside;
       wrong-cell = wrong-cell;

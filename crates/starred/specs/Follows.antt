@@ -85,6 +85,11 @@ pub record Followed-examples : Type 0 where
       ≡ stretch (Processor 2 1 at E) (Across 2 1 at W) ∷ join (Across 2 1) W N
       ∷ stretch (Across 2 1 at N) (Across 1 1 at S) ∷ join (Across 1 1) S E
       ∷ stretch (Across 1 1 at E) (Processor 1 2 at W) ∷ []
+  -- and those of [2, 1] to the right, which runs through the switch (2, 1) too, by its other join
+  pub beside-pieces : pieces (out-of (seat-of bench 65) 0) (run bench 7 (out-of (seat-of bench 65) 0))
+      ≡ stretch (Processor 3 1 at E) (Across 3 1 at W) ∷ join (Across 3 1) W N
+      ∷ stretch (Across 3 1 at N) (Across 2 1 at S) ∷ join (Across 2 1) S E
+      ∷ stretch (Across 2 1 at E) (Processor 2 2 at W) ∷ []
   -- downward past two faults, from (1, 2) to (2, 0), over three; and a right link beside them
   pub three-down : followed level 33 1 ≡ Entered (record { position = 64; port = 2; switches = 3 })
   pub right-beside : followed level 65 0 ≡ Entered (record { position = 66; port = 0; switches = 2 })

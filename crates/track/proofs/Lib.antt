@@ -19,3 +19,4 @@ pub mod Theorem
 pub mod XEntries
 pub mod Follows
 pub mod Accepted
+pub mod Same

@@ -48,7 +48,7 @@ letters =
     ∷ c ∷ x ∷ x ∷ c ∷ b
     ∷ []
 
--- the entry by west and east state; of a down switch, by upper and lower state. 0, no letter, for other numbers.
+-- the entry by west and east state, each 0 to 4; of a down switch, by upper and lower state
 unfoldable pub entry : ℕ → ℕ → ℕ
 entry west east = getD letters (west * 5 + east) 0
 

@@ -30,3 +30,14 @@ Same (stretch u v) (stretch u′ v′) = Same-two u v u′ v′
 Same (stretch u v) (join k s t) = ⊥
 Same (join k s t) (stretch u v) = ⊥
 Same (join k s t) (join k′ s′ t′) = (k ≡ k′) × Same-two s t s′ t′
+
+-- a piece run over the other way
+abbrev pub reversed : Piece → Piece
+reversed (stretch u v) = stretch v u
+reversed (join k s t) = join k t s
+
+-- the statement that a piece is the same as itself, run over either way, and as no other
+pub record Same-pieces : Type 0 where
+  pub itself : (x : Piece) → Same x x
+  pub other-way : (x : Piece) → Same x (reversed x)
+  pub no-other : (x y : Piece) → Same x y → (x ≡ y) ⊎ (x ≡ reversed y)

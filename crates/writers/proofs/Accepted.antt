@@ -32,7 +32,7 @@ abbrev pub element-test : Kind → ℕ → ℕ → ℕ → ℕ → Verdict
 element-test Map n m p v = mark-test n m p v
 element-test Plan n m p v = path-test n m p v
 
-tests-are :
+pub tests-are :
     (kind : Kind) (n m : ℕ) (b : List ℕ) →
     buffer-test kind n m b ≡ or-else (size-test n m) (or-else (length-test (all-long (b ∷ []))) (first-in (element-test kind n m) b))
 unfolding buffer-test map-tests

@@ -44,7 +44,7 @@ refusal-of-requires : tie.Need-refusal-of-requires
 refusal-of-requires c κs = search needs
 
 returns-2 : tie.Need-returns-2
-returns-2 c = rw (c .refusal-of .ensures _ (c .before .enum-told .given .1))
+returns-2 c = rw (c .refusal-of .ensures, c .before .enum-told .given .1)
     (sym (no-rows _ _ _ (c .before .before .before .before .if1 .left) _
     (sym (c .before .before .before .read-size .ensures) ∙ c .before .enum-told .given .1)))
 
@@ -63,7 +63,7 @@ refusal-of-requires-2 c κs = search needs
 returns-3 : tie.Need-returns-3
 returns-3 c =
     let a = c .before .before .before .before .before in
-    rw (c .refusal-of2 .ensures _ (c .before .enum-told2 .given .1))
+    rw (c .refusal-of2 .ensures, c .before .enum-told2 .given .1)
     (sym
     (no-columns _ _ _ (a .before .before .before .if1 .left) _ _ (rows-are a) _
     (sym (c .before .before .before .read-size2 .ensures) ∙ c .before .enum-told2 .given .1)))
@@ -84,7 +84,7 @@ returns-4 : tie.Need-returns-4
 returns-4 c =
     let b = c .before .before .before .before .before in
     let a = b .before .before .before .before in
-    rw (c .refusal-of3 .ensures _ (c .before .enum-told3 .given .1))
+    rw (c .refusal-of3 .ensures, c .before .enum-told3 .given .1)
     (sym
     (no-count _ _ _ (a .before .before .before .if1 .left) _ _ (rows-are a) _ _ (columns-are b) _
     (sym (number-kept _ _ (c .before .before .before .read-number .ensures)) ∙ c .before .enum-told3 .given .1)))

@@ -44,7 +44,7 @@ refusal-of-requires c κs = search needs
 
 returns : tie.Need-returns
 returns c =
-    rw (c .refusal-of .ensures _ (c .before .enum-told .given .1))
+    rw (c .refusal-of .ensures, c .before .enum-told .given .1)
     (sym (no-row _ _ _ _ _ _ _ (sym (number-kept _ _ (c .before .before .before .read-number .ensures)) ∙ c .before .enum-told .given .1)))
 
 read-number-requires-2 : tie.Need-read-number-requires-2
@@ -62,7 +62,7 @@ refusal-of-requires-2 c κs = search needs
 returns-2 : tie.Need-returns-2
 returns-2 c =
     let a = c .before .before .before .before .before in
-    rw (c .refusal-of2 .ensures _ (c .before .enum-told2 .given .1))
+    rw (c .refusal-of2 .ensures, c .before .enum-told2 .given .1)
     (sym
     (no-column _ _ _ _ _ _ _ (row-is a) _ _
     (sym (number-kept _ _ (c .before .before .before .read-number2 .ensures)) ∙ c .before .enum-told2 .given .1)))
@@ -82,7 +82,7 @@ refusal-of-requires-3 c κs = search needs
 returns-3 : tie.Need-returns-3
 returns-3 c =
     let d = c .before .before .before .before .before in
-    rw (c .refusal-of3 .ensures _ (c .before .enum-told3 .given .1))
+    rw (c .refusal-of3 .ensures, c .before .enum-told3 .given .1)
     (sym
     (no-value _ _ _ _ _ _ _ (row-is (d .before .before .before .before)) _ _ (column-is d) _ _
     (sym (c .before .before .before .read-value .ensures) ∙ c .before .enum-told3 .given .1)))

@@ -1,0 +1,47 @@
+-- The listing of a map that was read has no line of a refusal.
+-- Assumes nothing.
+use Prim.Native.Nat.{ℕ}
+use mathlib.Core.Path.{_≡_, refl}
+use mathlib.Core.Bool.{true, _&&_}
+use mathlib.Core.List.{List}
+use lib.ListN.{length}
+use borrow.Author.Tests.{eq-eqb}
+use Rattle.array.specs.Buffer.{long, zeros, nothing-at}
+use Rattle.array.specs.Map.{well-formed}
+use Rattle.array.specs.declared.Verdict.the-variants.{Accepted}
+use Rattle.array.proofs.Fills.{tabulate-length}
+use Rattle.array.proofs.Formed.{formed-lent, grid-and}
+use Rattle.plans.specs.Faults.{faults}
+use Rattle.trials.specs.Search.{planned, outcome, directions-written}
+use Rattle.repair.specs.Operations.{plan-repair-test, plan-repair, directions-after}
+use Rattle.repair.specs.declared.Answer.the-variants as answer
+use Rattle.formats.specs.declared.Kind.the-variants.{Map}
+use Rattle.readers.specs.declared.FileRead.the-variants as reader
+use Rattle.writers.specs.Writing.{buffer-test}
+use Rattle.files.proofs.Sound.{sound-reading}
+use Rattle.listing.specs.Listing.{limit, map-lines, file-lines, listing, Maps-listed}
+
+formed-map : (n m : ℕ) (grid : List ℕ) → buffer-test Map n m grid ≡ Accepted → well-formed n m grid ≡ Accepted
+unfolding buffer-test
+formed-map n m grid h = h
+
+-- the planner's tests of a well-formed map with blank directions
+tested : (n m : ℕ) (grid : List ℕ) → well-formed n m grid ≡ Accepted → plan-repair-test n m grid zeros ≡ Accepted
+tested n m grid h =
+    formed-lent n m grid (long grid && (long zeros && true)) h
+    (grid-and n m grid (long zeros && true) h (rw (eq-eqb (length zeros) 1024 (tabulate-length nothing-at 1024)) refl))
+
+module _ (n m : ℕ) (grid : List ℕ) (h : plan-repair-test n m grid zeros ≡ Accepted) where
+  answered : plan-repair n m grid zeros limit ≡ answer.Planned (outcome limit (planned n m grid))
+  unfolding plan-repair
+  answered = rw h refl
+
+  written-is : directions-after n m grid zeros limit ≡ directions-written limit (faults n m grid) (planned n m grid)
+  unfolding directions-after
+  written-is = rw h refl
+
+pub maps-listed : Maps-listed
+unfolding listing file-lines map-lines
+maps-listed s grid head q =
+    let t = tested (head .rows) (head .columns) grid (formed-map (head .rows) (head .columns) grid (sound-reading Map s zeros grid head q .fit)) in
+    rw (q, answered (head .rows) (head .columns) grid t, written-is (head .rows) (head .columns) grid t) refl
