@@ -3,7 +3,7 @@
 use mathlib.Core.Path.{_≡_, refl, sym, ap, _∙_}
 use mathlib.Core.Bool.{Bool, true, false, not, _&&_, _||_}
 use mathlib.Core.List.{List}
-use Prim.Native.Nat.{ℕ, _+_, _<_, _≤_}
+use Prim.Native.Nat.{ℕ, _<_, _≤_}
 use native.Mathlib.Omega.{arith}
 use borrow.Author.Tests.{not-false, eqb-true, eq-eqb, ne-eqb, le-ltb}
 use lib.Dec.{eqb, ltb}
@@ -13,30 +13,19 @@ use Rattle.array.specs.Buffer.{long}
 use Rattle.array.specs.Map.{map-tests, well-formed, inner-faulty, inner-fault}
 use Rattle.array.specs.declared.Verdict.the-variants.{Accepted}
 use Rattle.array.proofs.Bools.{and-true, or-false, by-bool}
-use Rattle.array.proofs.Verdicts.{both-accepted, accept-both, accepted-false, false-accepted, accepted-not}
-use Rattle.array.proofs.Scans.{buffer-scan, scan-each, scan-each-from, scan-all, scan-all-from}
+use Rattle.array.proofs.Verdicts.{both-accepted, accept-both, accepted-false, false-accepted}
+use Rattle.array.proofs.Scans.{buffer-scan, scan-each, scan-all}
 use Rattle.array.proofs.Maps.{map-accepted}
 use Rattle.array.proofs.Formed.{Formed, formed, formed-lent, grid-and}
 use Rattle.array.proofs.Positions.{position-index}
 use Rattle.array.proofs.Marks.{mark-read}
-use Rattle.paths.specs.Path.{is-open, meet, near-miss, pair-test}
 use Rattle.plans.specs.Faults.{faults, directions-at, paired, directed-faults}
 use Rattle.plans.specs.Plan.{Choice, Plan}
-use Rattle.plans.specs.Check.{wrong-direction, direction-test, directions-test, open-test, opens-test, clash-test, pairs-test, paths-test, plan-tests, check-plan, Holds-plan, Accepts-plans}
+use Rattle.plans.specs.Check.{wrong-direction, direction-test, directions-test, paths-test, plan-tests, check-plan, Holds-plan, Accepts-plans}
 use Rattle.plans.specs.Inner.{Starts, Sound}
-use Rattle.plans.proofs.Pairing.{fault-at, directions-length, direction-at, faults-scan, pairs-scan}
+use Rattle.plans.proofs.Pairing.{directions-length, direction-at}
 use Rattle.plans.proofs.Facts.{fault-starts}
-
--- what the pair test says where it refuses nothing
-pair-clear : (n m p d q e : ℕ) → pair-test n m p d q e ≡ Accepted → (meet n m p d q e ≡ false) × (near-miss p d q e ≡ false)
-unfolding pair-test
-pair-clear n m p d q e h =
-    let a = both-accepted _ _ h in
-    (accepted-false (meet n m p d q e) 6 p q (a .0), accepted-false (near-miss p d q e) 7 p q (a .1))
-
-clear-pair : (n m p d q e : ℕ) → meet n m p d q e ≡ false → near-miss p d q e ≡ false → pair-test n m p d q e ≡ Accepted
-unfolding pair-test
-clear-pair n m p d q e h g = accept-both (false-accepted 6 p q h) (false-accepted 7 p q g)
+use Rattle.plans.proofs.Planned.{paths-plan, plan-paths}
 
 -- a direction that is not wrong off the inner faults is 0, and the other way round
 off-fault : (d : ℕ) → wrong-direction false d ≡ false → d ≡ 0
@@ -77,44 +66,21 @@ module _ (n m : ℕ) (grid directions : List ℕ) (accepted-map : well-formed n 
   sound = record { rows = map .sizes .rows-high; columns = map .sizes .columns-high; grid-long = map .length-is; directions-long = wide }
 
   -- from the check to the plan
-  module _ (directed : directions-test n m grid directions ≡ Accepted) (opens : opens-test n m grid (paired starts ds) ≡ Accepted)
-      (pairs : pairs-test n m (paired starts ds) ≡ Accepted)
-    where
-      begun : Starts n m starts ds
-      begun = fault-starts n m grid directions (record { sound = sound; right = directed })
+  module _ (directed : directions-test n m grid directions ≡ Accepted) where
+    chosen : Choice n m grid ds
+    chosen =
+        let begun : Starts n m starts ds = fault-starts n m grid directions (record { sound = sound; right = directed }) in
+        record {
+          one-each = same;
+          straight = λ k h. let s = begun .each k (omega (arith, h, same)) in (s .low, s .high);
+        }
 
-      chosen : Choice n m grid ds
-      chosen =
-          record {
-            one-each = same;
-            straight = λ k h. let s = begun .each k (omega (arith, h, same)) in (s .low, s .high);
-          }
-
-      clear : (i j : ℕ) → i < j → j < length ds
-          → (meet n m (getD starts i 0) (getD ds i 0) (getD starts j 0) (getD ds j 0) ≡ false)
-          × (near-miss (getD starts i 0) (getD ds i 0) (getD starts j 0) (getD ds j 0) ≡ false)
-      clear i j h l =
-          let a = scan-each (pairs-scan starts ds same n m) pairs i (omega (arith, same)) in
-          let b = scan-each-from (faults-scan starts ds same (clash-test n m (fault-at starts ds i))) (i + 1) a j (omega arith) (omega (arith, same)) in
-          pair-clear n m (getD starts i 0) (getD ds i 0) (getD starts j 0) (getD ds j 0) b
-
-      planned : Plan n m grid ds
-      planned =
-          record {
-            one-path = chosen;
-            open-path = λ k h.
-                accepted-not (is-open n m grid (getD starts k 0) (getD ds k 0)) 5 (getD starts k 0) 0
-                (scan-each (faults-scan starts ds same (open-test n m grid)) opens k (omega (arith, same)));
-            no-meeting = λ i j h l. clear i j h l .0;
-            no-near-miss = λ i j h l. clear i j h l .1;
-          }
-
-      nothing-else : (p : ℕ) → p < 1024 → inner-fault n m grid p ≡ false → getD directions p 0 ≡ 0
-      nothing-else p h f =
-          let l : p < length directions = omega arith in
-          let w = accepted-false (wrong-direction (inner-fault n m grid p) (getD directions p 0)) 4 p 0
-          (scan-each (buffer-scan (direction-test n m grid) directions) directed p l) in
-          off-fault (getD directions p 0) (rw f at w)
+    nothing-else : (p : ℕ) → p < 1024 → inner-fault n m grid p ≡ false → getD directions p 0 ≡ 0
+    nothing-else p h f =
+        let l : p < length directions = omega arith in
+        let w = accepted-false (wrong-direction (inner-fault n m grid p) (getD directions p 0)) 4 p 0
+        (scan-each (buffer-scan (direction-test n m grid) directions) directed p l) in
+        off-fault (getD directions p 0) (rw f at w)
 
   -- from the plan to the check
   module _ (plan : Plan n m grid ds) (elsewhere : (p : ℕ) → p < 1024 → inner-fault n m grid p ≡ false → getD directions p 0 ≡ 0) where
@@ -137,37 +103,20 @@ module _ (n m : ℕ) (grid directions : List ℕ) (accepted-map : well-formed n 
         let e : wrong-direction (inner-fault n m grid p) (getD directions p 0) ≡ false = rw (f, elsewhere p (omega arith) f) in
         false-accepted 4 p 0 e)
 
-    open-right : (k : ℕ) → k < length starts → open-test n m grid (fault-at starts ds k) ≡ Accepted
-    open-right k h = false-accepted 5 (getD starts k 0) 0 (ap not (plan .open-path k (omega (arith, same))))
-
-    pair-right : (i j : ℕ) → i < j → j < length starts → clash-test n m (fault-at starts ds i) (fault-at starts ds j) ≡ Accepted
-    pair-right i j h l =
-        clear-pair n m (getD starts i 0) (getD ds i 0) (getD starts j 0) (getD ds j 0)
-        (plan .no-meeting i j h (omega (arith, same))) (plan .no-near-miss i j h (omega (arith, same)))
-
-    paths-right : paths-test n m grid (paired starts ds) ≡ Accepted
-    unfolding paths-test
-    paths-right =
-        accept-both (scan-all (faults-scan starts ds same (open-test n m grid)) open-right)
-        (scan-all (pairs-scan starts ds same n m)
-        (λ i h. scan-all-from (faults-scan starts ds same (clash-test n m (fault-at starts ds i))) (i + 1)
-        (λ j g l. pair-right i j (omega arith) l)))
-
     accepted : check-plan n m grid directions ≡ Accepted
     unfolding plan-tests
     accepted =
         accept-both formed-right
-        (accept-both (scan-all (buffer-scan (direction-test n m grid) directions) direction-right) paths-right)
+        (accept-both (scan-all (buffer-scan (direction-test n m grid) directions) direction-right) (plan-paths n m grid ds plan))
 
   checked : check-plan n m grid directions ≡ Accepted
       → Plan n m grid ds × ((p : ℕ) → p < 1024 → inner-fault n m grid p ≡ false → getD directions p 0 ≡ 0)
-  unfolding plan-tests paths-test
+  unfolding plan-tests
   checked h =
       let a = both-accepted (map-tests n m (long grid && (long directions && true)) grid)
       (or-else (directions-test n m grid directions) (paths-test n m grid (paired starts ds))) h in
       let b = both-accepted (directions-test n m grid directions) (paths-test n m grid (paired starts ds)) (a .1) in
-      let d = both-accepted (opens-test n m grid (paired starts ds)) (pairs-test n m (paired starts ds)) (b .1) in
-      (planned (b .0) (d .0) (d .1), nothing-else (b .0) (d .0) (d .1))
+      (paths-plan n m grid ds (chosen (b .0)) (b .1), nothing-else (b .0))
 
 -- an accepted call's map is well-formed, and its direction buffer has its length
 map-of : (n m : ℕ) (grid directions : List ℕ) → check-plan n m grid directions ≡ Accepted

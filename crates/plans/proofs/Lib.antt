@@ -1,4 +1,10 @@
 pub mod Pairing
 pub mod Facts
+pub mod Planned
 pub mod Accepts
 pub mod Tested
+pub mod Lists
+pub mod Gathering
+pub mod ListAccepts
+pub mod ListExamples
+pub mod Cells

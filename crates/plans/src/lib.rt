@@ -17,7 +17,9 @@ pub struct Fault {
     pub direction: u8,
 }
 
-// check_plan is for callers; the other functions are inner parts.
+// check_plan is for callers, and so is check_fault_list of list.rt; the other functions are inner parts.
+
+pub mod list; // the plan check of a slice of faults
 
 pub fn wide(x: u16) -> usize
     ensures { λ r. ⌜ r ≡ x ⌝ }
