@@ -1,0 +1,16 @@
+-- `cases::calls::lent` meets its contract.
+-- Assumes nothing.
+use mathlib.Core.Path.{sym}
+use native.Mathlib.Omega.{arith}
+use lib.Seq.{length-take-le}
+use Rattle.cases.proofs.calls.lent.Statement.{statement}
+use Rattle.cases.proofs.calls.lent.Tie as tie
+
+returns : tie.Need-returns
+returns c = (omega arith, sym (length-take-le _ _ (omega arith)))
+
+returns-2 : tie.Need-returns-2
+returns-2 c = (omega arith, sym (length-take-le _ _ (omega arith)))
+
+pub lent-spec : {M : Type 1} → statement M
+lent-spec = tie.close (tie.spec returns returns-2)

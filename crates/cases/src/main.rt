@@ -1,0 +1,391 @@
+// Reads lines from standard input that set up wafers and files or call an operation, and prints each, a call with its answer.
+mod calls;
+mod faults;
+mod settings;
+mod show;
+mod words;
+
+use crate::settings::Setup;
+use libc::STDIN_FILENO;
+ghost use Prim.Native.Nat.{_≤_};
+ghost use lib.ListN.{length};
+
+// The lines that set something up.
+enum Setting {
+    Size,
+    Lengths,
+    Mark,
+    Direction,
+    Across,
+    Down,
+    File,
+    Other,
+}
+
+// The lines that call an operation without writing a file or reading one whole.
+enum Call {
+    Check,
+    Faults,
+    Plan,
+    Place,
+    Route,
+    Follow,
+    Run,
+    Number,
+    List,
+    Unknown,
+}
+
+// The lines that read or write a file.
+enum FileCall {
+    ReadMap,
+    ReadPlan,
+    WriteMap,
+    WritePlan,
+    Unknown,
+}
+
+fn setting_of(line: &[u8]) -> Setting {
+    if words::is_word(line, 0, b"size") {
+        return Setting::Size;
+    }
+    if words::is_word(line, 0, b"lengths") {
+        return Setting::Lengths;
+    }
+    if words::is_word(line, 0, b"mark") {
+        return Setting::Mark;
+    }
+    if words::is_word(line, 0, b"direction") {
+        return Setting::Direction;
+    }
+    if words::is_word(line, 0, b"across") {
+        return Setting::Across;
+    }
+    if words::is_word(line, 0, b"down") {
+        return Setting::Down;
+    }
+    if words::is_word(line, 0, b"file") {
+        return Setting::File;
+    }
+    Setting::Other
+}
+
+fn call_of(line: &[u8]) -> Call {
+    if words::is_word(line, 0, b"check") & words::has_words(line, 1) {
+        return Call::Check;
+    }
+    if words::is_word(line, 0, b"faults") {
+        return Call::Faults;
+    }
+    if words::is_word(line, 0, b"place") & words::has_words(line, 1) {
+        return Call::Place;
+    }
+    if words::is_word(line, 0, b"route") & words::has_words(line, 1) {
+        return Call::Route;
+    }
+    if words::is_word(line, 0, b"plan") & words::has_words(line, 2) {
+        return Call::Plan;
+    }
+    if words::is_word(line, 0, b"run") & words::has_words(line, 2) {
+        return Call::Run;
+    }
+    if words::is_word(line, 0, b"number") & words::has_words(line, 2) {
+        return Call::Number;
+    }
+    if words::is_word(line, 0, b"list") & words::has_words(line, 2) {
+        return Call::List;
+    }
+    if words::is_word(line, 0, b"follow") & words::has_words(line, 3) {
+        return Call::Follow;
+    }
+    Call::Unknown
+}
+
+fn file_call_of(line: &[u8]) -> FileCall {
+    let map = words::is_word(line, 1, b"map");
+    let plan = words::is_word(line, 1, b"plan");
+    if words::is_word(line, 0, b"read") & words::has_words(line, 2) {
+        if map {
+            return FileCall::ReadMap;
+        }
+        if plan {
+            return FileCall::ReadPlan;
+        }
+    }
+    if words::is_word(line, 0, b"write") & words::has_words(line, 3) {
+        if map {
+            return FileCall::WriteMap;
+        }
+        if plan {
+            return FileCall::WritePlan;
+        }
+    }
+    FileCall::Unknown
+}
+
+fn fail() {
+    show::say(b"error");
+}
+
+fn call_plan(line: &[u8], s: Setup, grid: &[u8], directions: &mut [u8]) {
+    let limit = words::number(line, 1);
+    if !limit.ok {
+        fail();
+        return;
+    }
+    if 4294967295 < limit.value {
+        fail();
+        return;
+    }
+    calls::plan(s, grid, limit.value as u32, directions);
+}
+
+fn call_run(line: &[u8], s: Setup, grid: &[u8]) {
+    let limit = words::number(line, 1);
+    if !limit.ok {
+        fail();
+        return;
+    }
+    if 4294967295 < limit.value {
+        fail();
+        return;
+    }
+    calls::run(s, grid, limit.value as u32);
+}
+
+fn call_follow(line: &[u8], s: Setup, grid: &[u8], directions: &[u8], across: &[u8], down: &[u8]) {
+    let cell = words::number(line, 1);
+    let side = words::number(line, 2);
+    if cell.ok & side.ok {
+        calls::follow(s, grid, directions, across, down, cell.value, side.value);
+    } else {
+        fail();
+    }
+}
+
+fn call_number(line: &[u8], s: Setup, file: &[u8]) {
+    let at = words::number(line, 1);
+    if at.ok {
+        calls::number(s, file, at.value);
+    } else {
+        fail();
+    }
+}
+
+// Whether a number can be the length of the file buffer written to.
+fn is_room(v: words::Value) -> bool {
+    v.ok & (v.value <= 4096)
+}
+
+fn call_list(line: &[u8], s: Setup, file: &[u8]) {
+    let length = words::number(line, 1);
+    if is_room(length) {
+        calls::list(s, file, length.value);
+    } else {
+        fail();
+    }
+}
+
+fn call_write_map(line: &[u8], s: Setup, grid: &[u8], file: &mut [u8]) -> Setup {
+    let length = words::number(line, 2);
+    if is_room(length) {
+        return calls::write_map(s, grid, length.value, file);
+    }
+    fail();
+    s
+}
+
+fn call_write_plan(line: &[u8], s: Setup, directions: &[u8], file: &mut [u8]) -> Setup {
+    let length = words::number(line, 2);
+    if is_room(length) {
+        return calls::write_plan(s, directions, length.value, file);
+    }
+    fail();
+    s
+}
+
+// A line that reads or writes a file.
+fn obey_file(
+    line: &[u8],
+    s: Setup,
+    grid: &mut [u8],
+    directions: &mut [u8],
+    file: &mut [u8],
+) -> Setup {
+    match file_call_of(line) {
+        FileCall::ReadMap => calls::read_map(s, file, grid),
+        FileCall::ReadPlan => {
+            calls::read_plan(s, file, directions);
+            s
+        }
+        FileCall::WriteMap => call_write_map(line, s, grid, file),
+        FileCall::WritePlan => call_write_plan(line, s, directions, file),
+        FileCall::Unknown => {
+            fail();
+            s
+        }
+    }
+}
+
+// A line that changes no more than the buffers of a wafer.
+fn obey_call(
+    line: &[u8],
+    s: Setup,
+    grid: &[u8],
+    directions: &mut [u8],
+    across: &mut [u8],
+    down: &mut [u8],
+    file: &[u8],
+) {
+    match call_of(line) {
+        Call::Check => calls::check(s, grid, directions),
+        Call::Faults => faults::check(line, s, grid),
+        Call::Plan => call_plan(line, s, grid, directions),
+        Call::Place => calls::place(s, grid, directions),
+        Call::Route => calls::route(s, grid, directions, across, down),
+        Call::Follow => call_follow(line, s, grid, directions, across, down),
+        Call::Run => call_run(line, s, grid),
+        Call::Number => call_number(line, s, file),
+        Call::List => call_list(line, s, file),
+        Call::Unknown => fail(),
+    }
+}
+
+// A line that calls an operation.
+fn obey_other(
+    line: &[u8],
+    s: Setup,
+    grid: &mut [u8],
+    directions: &mut [u8],
+    across: &mut [u8],
+    down: &mut [u8],
+    file: &mut [u8],
+) -> Setup {
+    show::say(b" -> ");
+    if words::is_word(line, 0, b"read") | words::is_word(line, 0, b"write") {
+        return obey_file(line, s, grid, directions, file);
+    }
+    obey_call(line, s, grid, directions, across, down, file);
+    s
+}
+
+// A line that is no comment.
+fn obey(
+    line: &[u8],
+    s: Setup,
+    grid: &mut [u8],
+    directions: &mut [u8],
+    across: &mut [u8],
+    down: &mut [u8],
+    file: &mut [u8],
+) -> Setup {
+    match setting_of(line) {
+        Setting::Size => settings::set_size(line, s, grid, directions, across, down),
+        Setting::Lengths => settings::set_lengths(line, s),
+        Setting::File => settings::set_file(line, s, file),
+        Setting::Mark => {
+            settings::set_elements(line, grid);
+            s
+        }
+        Setting::Direction => {
+            settings::set_elements(line, directions);
+            s
+        }
+        Setting::Across => {
+            settings::set_elements(line, across);
+            s
+        }
+        Setting::Down => {
+            settings::set_elements(line, down);
+            s
+        }
+        Setting::Other => obey_other(line, s, grid, directions, across, down, file),
+    }
+}
+
+// Whether a line is blank or a comment.
+fn is_remark(line: &[u8]) -> bool {
+    (line.len() == 0) | (words::get(line, 0) == b'#')
+}
+
+// Prints a line with what it answers.
+fn answer(
+    line: &[u8],
+    s: Setup,
+    grid: &mut [u8],
+    directions: &mut [u8],
+    across: &mut [u8],
+    down: &mut [u8],
+    file: &mut [u8],
+) -> Setup {
+    show::say(line);
+    if is_remark(line) {
+        show::say(b"\n");
+        return s;
+    }
+    let next = obey(line, s, grid, directions, across, down, file);
+    show::say(b"\n");
+    next
+}
+
+// Where the line that starts at an offset ends.
+fn line_end(text: &[u8], start: usize) -> usize
+    requires { ⌜ start ≤ length (now text) ⌝ }
+    ensures { λ r. ⌜ (start ≤ r) × (r ≤ length (now (text .entry))) ⌝ }
+{
+    let mut i = start;
+    while i < text.len() {
+        if text[i] == b'\n' {
+            return i;
+        }
+        i += 1;
+    }
+    i
+}
+
+fn answer_all(
+    text: &[u8],
+    grid: &mut [u8],
+    directions: &mut [u8],
+    across: &mut [u8],
+    down: &mut [u8],
+    file: &mut [u8],
+) {
+    if 65536 < text.len() {
+        return;
+    }
+    let mut s = Setup {
+        n: 0,
+        m: 0,
+        grid: 0,
+        directions: 0,
+        places: 0,
+        across: 0,
+        down: 0,
+        file: 0,
+    };
+    let mut at = 0;
+    while at < text.len() {
+        let end = line_end(text, at);
+        s = answer(&text[at..end], s, grid, directions, across, down, file);
+        at = end + 1;
+    }
+}
+
+fn main() {
+    let mut text = io::large_buffer();
+    let n = io::read_full(STDIN_FILENO, &mut text);
+    let mut grid = [0u8; 1025];
+    let mut directions = [0u8; 1025];
+    let mut across = [0u8; 1025];
+    let mut down = [0u8; 1025];
+    let mut file = [0u8; 4096];
+    answer_all(
+        &text[..n],
+        &mut grid,
+        &mut directions,
+        &mut across,
+        &mut down,
+        &mut file,
+    );
+}
