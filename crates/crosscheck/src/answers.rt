@@ -1,0 +1,147 @@
+// The answers of the proved operations in the terms of the second ones, and buffers compared.
+use array::Verdict;
+use readers::FileRead;
+use repair::Answer;
+use second::buffers;
+use second::checks::Finding;
+use second::planner::Planned;
+use track::Followed;
+use track::Landing;
+use trials::Outcome;
+use writers::FileWritten;
+
+fn outcome_of(o: Outcome) -> Planned {
+    match o {
+        Outcome::Repaired(count) => Planned { outcome: 0, count },
+        Outcome::Beyond(count) => Planned { outcome: 1, count },
+        Outcome::Spent(count) => Planned { outcome: 2, count },
+    }
+}
+
+// The planner's answer; outcome 3 where it refuses.
+pub fn planned(n: usize, m: usize, grid: &[u8], directions: &mut [u8], limit: u32) -> Planned {
+    match repair::plan_repair(n, m, grid, directions, limit) {
+        Answer::Planned(o) => outcome_of(o),
+        Answer::Refused(_) => Planned {
+            outcome: 3,
+            count: 0,
+        },
+    }
+}
+
+fn finding_of(v: Verdict) -> Finding {
+    match v {
+        Verdict::Accepted => Finding {
+            number: 0,
+            place: 0,
+            second: 0,
+        },
+        Verdict::Refused(r) => Finding {
+            number: r.number,
+            place: r.place,
+            second: r.second,
+        },
+    }
+}
+
+// The plan check's answer.
+pub fn checked(n: usize, m: usize, grid: &[u8], directions: &[u8]) -> Finding {
+    finding_of(plans::check_plan(n, m, grid, directions))
+}
+
+fn is_accepted(v: Verdict) -> bool {
+    if let Verdict::Accepted = v {
+        true
+    } else {
+        false
+    }
+}
+
+// Whether the placement is accepted.
+pub fn is_placed(n: usize, m: usize, grid: &[u8], directions: &[u8], places: &mut [u16]) -> bool {
+    is_accepted(repair::place_cells(n, m, grid, directions, places))
+}
+
+// Whether the routing is accepted.
+pub fn is_routed(
+    n: usize,
+    m: usize,
+    grid: &[u8],
+    directions: &[u8],
+    across: &mut [u8],
+    down: &mut [u8],
+) -> bool {
+    is_accepted(repair::route_switches(n, m, grid, directions, across, down))
+}
+
+// The follower's answer; a position past the array where it refuses.
+pub fn landed(
+    n: usize,
+    m: usize,
+    grid: &[u8],
+    directions: &[u8],
+    across: &[u8],
+    down: &[u8],
+    cell: usize,
+    side: usize,
+) -> Landing {
+    match repair::follow_link(n, m, grid, directions, across, down, cell, side) {
+        Followed::Entered(l) => l,
+        Followed::Refused(_) => Landing {
+            position: 1024,
+            port: 4,
+            switches: 0,
+        },
+    }
+}
+
+// A length that a writer answers, or 0 where it refuses.
+pub fn length_of(a: FileWritten) -> usize {
+    match a {
+        FileWritten::Length(k) => k,
+        FileWritten::Refused(_) => 0,
+    }
+}
+
+// Whether a reader gives this N, M and count.
+pub fn is_head(a: FileRead, n: usize, m: usize, count: usize) -> bool {
+    match a {
+        FileRead::File(h) => ((h.rows == n) & (h.columns == m)) & (h.count == count),
+        FileRead::Refused(_) => false,
+    }
+}
+
+pub fn are_same(a: &[u8], b: &[u8]) -> bool {
+    for p in 0..1024 {
+        if buffers::byte(a, p) != buffers::byte(b, p) {
+            return false;
+        }
+    }
+    true
+}
+
+pub fn are_same_places(a: &[u16], b: &[u16]) -> bool {
+    for p in 0..1024 {
+        if buffers::place(a, p) != buffers::place(b, p) {
+            return false;
+        }
+    }
+    true
+}
+
+pub fn copy(from: &[u8], to: &mut [u8]) {
+    for p in 0..1024 {
+        buffers::put_byte(to, p, buffers::byte(from, p));
+    }
+}
+
+// How many elements have this value.
+pub fn count_of(b: &[u8], value: u8) -> usize {
+    let mut count = 0;
+    for p in 0..1024 {
+        if buffers::byte(b, p) == value {
+            count = std::num::wrapping_add_usize(count, 1);
+        }
+    }
+    count
+}

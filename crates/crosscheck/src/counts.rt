@@ -1,0 +1,201 @@
+// What is counted, and how it is printed.
+use libc::STDOUT_FILENO;
+use second::buffers;
+
+pub const MAPS: usize = 0;
+
+pub const FAULTS: usize = 1;
+
+pub const REPAIRED: usize = 2;
+
+pub const BEYOND: usize = 3;
+
+pub const SPENT: usize = 4;
+
+pub const TRIALS: usize = 5;
+
+pub const LIMITS: usize = 6;
+
+pub const CELLS: usize = 7;
+
+pub const LETTERS_A: usize = 8;
+
+pub const LETTERS_B: usize = 9;
+
+pub const LETTERS_C: usize = 10;
+
+pub const LETTERS_D: usize = 11;
+
+pub const LINKS: usize = 12;
+
+pub const PIECES: usize = 13;
+
+pub const ACCEPTED: usize = 14;
+
+pub const REFUSED_4: usize = 15;
+
+pub const REFUSED_5: usize = 16;
+
+pub const REFUSED_6: usize = 17;
+
+pub const REFUSED_7: usize = 18;
+
+pub const MAP_FILES: usize = 19;
+
+pub const PLAN_FILES: usize = 20;
+
+pub const DIFFERENCES: usize = 21;
+
+pub const SHOWN: usize = 22;
+
+// What differs.
+pub const OUTCOME: usize = 23;
+
+pub const DIRECTIONS: usize = 24;
+
+pub const LIMIT: usize = 25;
+
+pub const CHECK: usize = 26;
+
+pub const PLACEMENT: usize = 27;
+
+pub const SEATS: usize = 28;
+
+pub const SWITCHES: usize = 29;
+
+pub const LINK: usize = 30;
+
+pub const SHARED: usize = 31;
+
+pub const MAP_FILE: usize = 32;
+
+pub const PLAN_FILE: usize = 33;
+
+pub fn get(tally: &[u64], what: usize) -> u64 {
+    if what < tally.len() { tally[what] } else { 0 }
+}
+
+pub fn add(tally: &mut [u64], what: usize, more: u64) {
+    if what < tally.len() {
+        tally[what] = std::num::wrapping_add_u64(tally[what], more);
+    }
+}
+
+// Counts a difference unless two things are the same.
+pub fn compare(tally: &mut [u64], same: bool, what: usize) {
+    if same {
+        return;
+    }
+    add(tally, what, 1);
+    add(tally, DIFFERENCES, 1);
+}
+
+fn print_number(v: usize) {
+    io::write_all(STDOUT_FILENO, b" ");
+    io::print_decimal(STDOUT_FILENO, v as u64);
+}
+
+// Prints the row and column of every fault.
+fn print_faults(grid: &[u8]) {
+    for p in 0..1024 {
+        if buffers::byte(grid, p) == 1 {
+            print_number(p / 32);
+            print_number(p % 32);
+        }
+    }
+}
+
+// Prints a map: its number, N, M and the faults.
+fn print_map(number: u64, n: usize, m: usize, grid: &[u8]) {
+    io::write_all(STDOUT_FILENO, b"difference at map ");
+    io::print_decimal(STDOUT_FILENO, number);
+    io::write_all(STDOUT_FILENO, b":");
+    print_number(n);
+    print_number(m);
+    io::write_all(STDOUT_FILENO, b" faults");
+    print_faults(grid);
+    io::write_all(STDOUT_FILENO, b"\n");
+}
+
+// Prints the map where there are more differences than before it, for the first few such maps.
+pub fn show(tally: &mut [u64], before: u64, n: usize, m: usize, grid: &[u8]) {
+    if get(tally, DIFFERENCES) == before {
+        return;
+    }
+    add(tally, SHOWN, 1);
+    if get(tally, SHOWN) <= 5 {
+        print_map(get(tally, MAPS), n, m, grid);
+    }
+}
+
+fn print_count(tally: &[u64], word: &[u8], what: usize) {
+    io::write_all(STDOUT_FILENO, word);
+    io::write_all(STDOUT_FILENO, b" ");
+    io::print_decimal(STDOUT_FILENO, get(tally, what));
+    io::write_all(STDOUT_FILENO, b"\n");
+}
+
+fn print_plans(tally: &[u64]) {
+    print_count(tally, b"maps", MAPS);
+    print_count(tally, b"faults", FAULTS);
+    print_count(tally, b"repaired", REPAIRED);
+    print_count(tally, b"beyond", BEYOND);
+    print_count(tally, b"spent", SPENT);
+    print_count(tally, b"trials", TRIALS);
+    print_count(tally, b"limits tried again", LIMITS);
+}
+
+fn print_track(tally: &[u64]) {
+    print_count(tally, b"cells placed", CELLS);
+    print_count(tally, b"switches at a", LETTERS_A);
+    print_count(tally, b"switches at b", LETTERS_B);
+    print_count(tally, b"switches at c", LETTERS_C);
+    print_count(tally, b"switches at d", LETTERS_D);
+    print_count(tally, b"links followed", LINKS);
+    print_count(tally, b"pieces of track", PIECES);
+}
+
+fn print_checks(tally: &[u64]) {
+    print_count(tally, b"plans accepted", ACCEPTED);
+    print_count(tally, b"plans refused with 4", REFUSED_4);
+    print_count(tally, b"plans refused with 5", REFUSED_5);
+    print_count(tally, b"plans refused with 6", REFUSED_6);
+    print_count(tally, b"plans refused with 7", REFUSED_7);
+    print_count(tally, b"map files read back", MAP_FILES);
+    print_count(tally, b"plan files read back", PLAN_FILES);
+}
+
+// Prints how often something differs, if it does.
+fn print_kind(tally: &[u64], word: &[u8], what: usize) {
+    if get(tally, what) != 0 {
+        io::write_all(STDOUT_FILENO, b"different ");
+        print_count(tally, word, what);
+    }
+}
+
+fn print_plan_kinds(tally: &[u64]) {
+    print_kind(tally, b"outcomes", OUTCOME);
+    print_kind(tally, b"directions", DIRECTIONS);
+    print_kind(tally, b"limits", LIMIT);
+    print_kind(tally, b"plan checks", CHECK);
+}
+
+fn print_track_kinds(tally: &[u64]) {
+    print_kind(tally, b"placements", PLACEMENT);
+    print_kind(tally, b"seats", SEATS);
+    print_kind(tally, b"switches", SWITCHES);
+    print_kind(tally, b"links", LINK);
+    print_kind(tally, b"shared pieces", SHARED);
+    print_kind(tally, b"map files", MAP_FILE);
+    print_kind(tally, b"plan files", PLAN_FILE);
+}
+
+// Prints every count on its own line.
+pub fn print(tally: &[u64]) {
+    print_plans(tally);
+    print_track(tally);
+    print_checks(tally);
+    print_plan_kinds(tally);
+    print_track_kinds(tally);
+    print_count(tally, b"differences", DIFFERENCES);
+}

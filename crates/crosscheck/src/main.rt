@@ -1,0 +1,101 @@
+// Compares the proved operations with second ones and with brute force on random maps, and prints what was compared.
+mod answers;
+mod counts;
+mod files;
+mod planning;
+mod random;
+mod repaired;
+
+// How many maps are compared.
+const MAPS: usize = 20000;
+
+// What follows where a map is repaired.
+fn cross_repaired(
+    found: bool,
+    seed: &mut u64,
+    n: usize,
+    m: usize,
+    grid: &[u8],
+    directions: &[u8],
+    marks: &mut [u32],
+    tally: &mut [u64],
+) {
+    if !found {
+        return;
+    }
+    planning::cross_check(n, m, grid, directions, tally);
+    repaired::cross_track(n, m, grid, directions, marks, tally);
+    files::cross_plan(n, m, directions, tally);
+    planning::cross_altered(seed, n, m, grid, directions, tally);
+    planning::cross_altered(seed, n, m, grid, directions, tally);
+    planning::cross_altered(seed, n, m, grid, directions, tally);
+}
+
+// The planners, and the rest of a repair.
+fn cross_repair(
+    seed: &mut u64,
+    n: usize,
+    m: usize,
+    limit: u32,
+    grid: &[u8],
+    directions: &mut [u8],
+    marks: &mut [u32],
+    tally: &mut [u64],
+) {
+    let found = planning::cross_plan(n, m, grid, directions, limit, tally);
+    cross_repaired(found, seed, n, m, grid, directions, marks, tally);
+}
+
+// What needs no plan.
+fn cross_others(seed: &mut u64, n: usize, m: usize, grid: &[u8], tally: &mut [u64]) {
+    planning::cross_choice(seed, n, m, grid, tally);
+    planning::cross_choice(seed, n, m, grid, tally);
+    files::cross_map(n, m, grid, tally);
+    files::cross_paths(seed, n, m, tally);
+}
+
+// One map, over room for its directions.
+fn cross_map(
+    seed: &mut u64,
+    n: usize,
+    m: usize,
+    limit: u32,
+    grid: &[u8],
+    directions: &mut [u8],
+    marks: &mut [u32],
+    tally: &mut [u64],
+) {
+    let before = counts::get(tally, counts::DIFFERENCES);
+    counts::add(tally, counts::MAPS, 1);
+    counts::add(tally, counts::FAULTS, answers::count_of(grid, 1) as u64);
+    cross_repair(seed, n, m, limit, grid, directions, marks, tally);
+    cross_others(seed, n, m, grid, tally);
+    counts::show(tally, before, n, m, grid);
+}
+
+// One map, with a generator of its own.
+fn cross_size(start: u64, i: usize, marks: &mut [u32], tally: &mut [u64]) {
+    let mut seed = start;
+    let mut grid = [9u8; 1024];
+    let mut directions = [9u8; 1024];
+    let n = random::draw_size(&mut seed, i);
+    let m = random::draw_size(&mut seed, i);
+    let limit = random::limit_of(i);
+    random::fill_map(&mut seed, n, m, &mut grid);
+    cross_map(&mut seed, n, m, limit, &grid, &mut directions, marks, tally);
+}
+
+fn cross_all(marks: &mut [u32], tally: &mut [u64]) {
+    let mut seeds: u64 = 88172645463325252;
+    for i in 0..MAPS {
+        let start = random::step(&mut seeds);
+        cross_size(start, i, marks, tally);
+    }
+}
+
+fn main() {
+    let mut marks = [0u32; 40964];
+    let mut tally = [0u64; 64];
+    cross_all(&mut marks, &mut tally);
+    counts::print(&tally);
+}
