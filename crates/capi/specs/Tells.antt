@@ -1,0 +1,90 @@
+-- The flat structs lose nothing of the answers: the statement, for every operation. A caller reads a struct by its number: 0 is an accepted call
+-- with its values, any other a refusal with its places. That gives back what the answer tells, since a refusal's number is 1 to 18.
+-- Assumes nothing.
+use Prim.Native.Nat.{ℕ, _-_, _≤_}
+use mathlib.Core.Path.{_≡_}
+use mathlib.Core.Bool.{cond}
+use mathlib.Core.List.{List, [], _∷_}
+use lib.Dec.{eqb}
+use Rattle.array.specs.Tests.{Told, accepts, refuses}
+use Rattle.plans.specs.Check.{check-plan}
+use Rattle.track.specs.Ports.{Wafer}
+use Rattle.repair.specs.Operations.{plan-repair, place-cells, route-switches, follow-link}
+use Rattle.repair.specs.Demand3.{Given}
+use Rattle.repair.specs.declared.Answer.{Answer}
+use Rattle.runs.specs.Run.{run-answer, run-links}
+use Rattle.formats.specs.Number.{number-at}
+use Rattle.readers.specs.Reading.{read-map, read-plan}
+use Rattle.writers.specs.Writing.{write-map, write-plan}
+use Rattle.listing.specs.Listing.{reported}
+use Rattle.capi.specs.Flat.{flat-verdict, flat-answer, run-of, flat-run, flat-link, flat-number, flat-head, flat-length}
+use Rattle.capi.specs.declared.ChantspruceVerdict.{ChantspruceVerdict}
+use Rattle.capi.specs.declared.ChantsprucePlan.{ChantsprucePlan}
+use Rattle.capi.specs.declared.ChantspruceLink.{ChantspruceLink}
+use Rattle.capi.specs.declared.ChantspruceNumber.{ChantspruceNumber}
+use Rattle.capi.specs.declared.ChantspruceHead.{ChantspruceHead}
+use Rattle.capi.specs.declared.ChantspruceLength.{ChantspruceLength}
+use Rattle.array.specs.Tests as tests
+use Rattle.track.specs.Follower as links
+use Rattle.repair.specs.Operations as operations
+use Rattle.formats.specs.Number as numbers
+use Rattle.readers.specs.Reading as readers
+use Rattle.writers.specs.Writing as writers
+
+-- by number, place and second place; the values are those of an accepted call
+abbrev pub by-number : ℕ → ℕ → ℕ → List ℕ → Told
+by-number k p q values = cond (eqb k 0) (accepts values) (refuses k p q)
+
+-- what each struct tells
+abbrev pub verdict-tells : ChantspruceVerdict → Told
+verdict-tells r = by-number (r .number) (r .place) (r .second) []
+
+-- outcomes count from 1 in the struct and from 0 in what an answer tells
+abbrev pub plan-tells : ChantsprucePlan → Told
+plan-tells r = by-number (r .number) (r .place) (r .second) ((r .outcome - 1) ∷ r .count ∷ [])
+
+abbrev pub link-tells : ChantspruceLink → Told
+link-tells r = by-number (r .number) (r .place) (r .second) (r .position ∷ r .port ∷ r .switches ∷ [])
+
+abbrev pub number-tells : ChantspruceNumber → Told
+number-tells r = by-number (r .number) (r .place) (r .second) (r .value ∷ r .next ∷ [])
+
+abbrev pub head-tells : ChantspruceHead → Told
+head-tells r = by-number (r .number) (r .place) (r .second) (r .rows ∷ r .columns ∷ r .count ∷ [])
+
+abbrev pub length-tells : ChantspruceLength → Told
+length-tells r = by-number (r .number) (r .place) (r .second) (r .length ∷ [])
+
+-- document 01's numbers are 1 to 18
+abbrev pub Numbered : Told → Type 0
+Numbered (accepts values) = Unit {0}
+Numbered (refuses k p q) = (1 ≤ k) × (k ≤ 18)
+
+-- an answer x, what it tells, its flat struct, and what that tells: the same, with a number of document 01 where it is a refusal
+pub record Kept {A B : Type 0} (told : A → Told) (flat : A → B) (tells : B → Told) (x : A) : Type 0 where
+  pub numbered : Numbered (told x)
+  pub same : tells (flat x) ≡ told x
+
+-- of the planner's answer, whatever count of links is returned beside it
+abbrev pub Answer-kept : ℕ → Answer → Type 0
+Answer-kept k a = Kept operations.told (λ (x : Answer). flat-answer x k) plan-tells a
+
+pub record Nothing-lost : Type 0 where
+  pub by-check-plan : (n m : ℕ) (grid directions : List ℕ)
+      → Kept tests.told flat-verdict verdict-tells (check-plan n m grid directions)
+  pub by-place-cells : (n m : ℕ) (grid directions places : List ℕ)
+      → Kept tests.told flat-verdict verdict-tells (place-cells n m grid directions places)
+  pub by-route-switches : (n m : ℕ) (grid directions across down : List ℕ)
+      → Kept tests.told flat-verdict verdict-tells (route-switches n m grid directions across down)
+  pub by-plan-repair : (n m : ℕ) (grid directions : List ℕ) (limit : ℕ)
+      → Answer-kept 0 (plan-repair n m grid directions limit)
+  pub by-follow-link : (w : Wafer) (cell side : ℕ) → Kept links.told flat-link link-tells (follow-link w cell side)
+  pub by-repair-run : (g : Given) → Answer-kept (run-links g) (run-answer g)
+  pub links-of-run : (g : Given) → flat-run (run-of g) .links ≡ run-links g
+  pub by-read-number : (s : List ℕ) (at : ℕ) → Kept numbers.told flat-number number-tells (number-at s at)
+  pub by-read-map : (s grid : List ℕ) → Kept readers.told flat-head head-tells (read-map s grid .0)
+  pub by-read-plan : (s directions : List ℕ) → Kept readers.told flat-head head-tells (read-plan s directions .0)
+  pub by-write-map : (n m : ℕ) (grid out : List ℕ) → Kept writers.told flat-length length-tells (write-map n m grid out .0)
+  pub by-write-plan : (n m : ℕ) (directions out : List ℕ)
+      → Kept writers.told flat-length length-tells (write-plan n m directions out .0)
+  pub by-report : (s out : List ℕ) → Kept writers.told flat-length length-tells (reported s out .0)

@@ -1,0 +1,380 @@
+/*
+ * Chantspruce: plans the repair of a processor array.
+ *
+ * An array of N x M processors, all alike, has a ring of spares around it and switches between its processors. From a map of the faulty
+ * processors the library chooses a straight path from each faulty processor inside the array to a spare, tells which healthy processor holds
+ * each logical cell, gives the letter of every switch so that neighbouring cells are linked, and follows any link through the switches to
+ * where it arrives. Where there is no plan it says so. The result of every function and every buffer after it are proved to be what
+ * their definitions say, for all arguments: there is no argument that a caller must test before a call.
+ *
+ * A whole repair is one call of chantspruce_repair_run, or these calls one after the other:
+ *
+ *     enum { B = CHANTSPRUCE_BUFFER };
+ *     uint8_t grid[B], directions[B], across[B], down[B];
+ *     uint16_t places[B];
+ *     chantspruce_head map = chantspruce_read_map(file, file_length, grid, B);
+ *     if (map.number != CHANTSPRUCE_ACCEPTED) { ... the file is no map: map.number says why, map.place where ... }
+ *     chantspruce_plan plan = chantspruce_plan_repair(map.rows, map.columns, grid, B, directions, B, 1000000);
+ *     if (plan.outcome == CHANTSPRUCE_REPAIRED) {
+ *         chantspruce_place_cells(map.rows, map.columns, grid, B, directions, B, places, B);
+ *         chantspruce_route_switches(map.rows, map.columns, grid, B, directions, B, across, B, down, B);
+ *     }
+ *
+ * Link with libcapi.a (`rt staticlib capi` writes target/staticlib/libcapi.a, for x86-64 Linux; it needs memcpy and memset and nothing else).
+ * tests/c/controller.c is a small program over it.
+ *
+ *
+ * THE ARRAY
+ *
+ * The logical cells stand in N rows and M columns; N and M are 1 to 30. Rows count downward and columns to the right, from 0. There is a
+ * processor at every row from 0 to N + 1 and column from 0 to M + 1, except at the four corners. Those in rows 1 to N and columns 1 to M are
+ * inside; the others are the spares. Cell [i, j] belongs at row i, column j. The position of a row and a column is the number
+ * 32 * row + column. Positions in ascending order are called row order.
+ *
+ * A path runs straight from a faulty processor inside the array to the spare at the end of its row or column. Every cell on it moves one
+ * processor along it. A plan gives each of these faults a path so that no path runs over another fault or ends on a faulty spare, no
+ * two paths share a processor, and no two are a near-miss. A near-miss: a path south and a path north in adjacent columns where the one that
+ * goes south starts above the other, or a path east and a path west in adjacent rows where the one that goes east starts left of the other.
+ *
+ *
+ * BUFFERS
+ *
+ * Each buffer other than the bytes of a file has 1,024 elements, neither more nor fewer, and is indexed by position:
+ *
+ *     grid        uint8_t    CHANTSPRUCE_HEALTHY or CHANTSPRUCE_FAULTY at a processor, CHANTSPRUCE_NO_PROCESSOR everywhere else
+ *     directions  uint8_t    CHANTSPRUCE_SOUTH, _NORTH, _EAST or _WEST at each faulty processor inside the array, 0 everywhere else
+ *     places      uint16_t   at the position of cell [i, j]: the position of the processor that holds it; 0 everywhere else
+ *     across      uint8_t    the letter of the across switch at that position; 0 where there is none
+ *     down        uint8_t    the letter of the down switch at that position; 0 where there is none
+ *
+ * Where row x has processors at columns y and y + 1, the across switch at row x, column y lies between them. Its port W leads to the first,
+ * E to the second, N and S to the across switches above and below it, if any. Where column y has processors at rows x and x + 1, the down
+ * switch at row x, column y lies between them. Its port N leads to the first, S to the second, W and E to the down switches beside it, if
+ * any. The letter of a switch says which of its ports are joined:
+ *
+ *     letter    across switch       down switch
+ *     a         N-S                 W-E
+ *     b         W-E                 N-S
+ *     c         W-S and E-N         N-E and S-W
+ *     d         W-N and E-S         N-W and S-E
+ *
+ * A fault inside the array joins its own N and S where its path goes south or north, its own W and E where it goes east or west. Every
+ * other processor ends the links that enter it.
+ *
+ *
+ * FILES
+ *
+ * A number below 128 is one byte. One from 128 to 16,383 is two bytes: 128 + its low seven bits, then the other bits, which are not 0.
+ * A map file: N, M, the number of faults, spares among them, then for each fault its row and its column. Their order is free.
+ * A plan file: N, M, the number of paths, then for each path the row and the column of its start and its direction (1 to 4).
+ * What the library writes is in row order.
+ *
+ *
+ * RESULTS
+ *
+ * Each result begins with `number`, `place` and `second`. An accepted call has number CHANTSPRUCE_ACCEPTED, which is 0, and 0 in both places;
+ * its values follow. A refused call has one of the numbers 1 to 18 below and 0 in every value, and has written to no buffer. Tests are
+ * made in a fixed order, which each function states, and the first that fails is returned.
+ *
+ *
+ * WHAT THE CALLER MUST SEE TO
+ *
+ * Any number may be passed for any size, cell, side, offset or limit, any bytes in any buffer, and any length: a wrong one is refused. Beyond
+ * that, as for all C functions:
+ *  - A pointer is valid for as many elements as the length after it says, and is aligned for its type. A length is in elements, not in bytes.
+ *    A null pointer is never allowed. Where the length is 0 nothing is read or written, and any other pointer will do.
+ *  - A buffer that a call writes to (a parameter that is no pointer to const) overlaps no other buffer of the same call. Two buffers
+ *    that are only read may be the same.
+ *  - While a call runs, nothing else writes to its buffers, and nothing else reads those that it writes to.
+ *  - CHANTSPRUCE_STACK bytes of stack are free. (This is measured and not proved: chantspruce_report takes 44 KiB, any other function less than
+ *    8 KiB.) Nothing is allocated and nothing is kept between calls, so that calls on different buffers may run at the same time.
+ * Where one of these is not met the behaviour is undefined, and nothing is promised of the result.
+ */
+#ifndef CHANTSPRUCE_H
+#define CHANTSPRUCE_H
+
+#include <stddef.h>
+#include <stdint.h>
+
+#ifdef __cplusplus
+extern "C" {
+#endif
+
+/* SIZES */
+
+#define CHANTSPRUCE_BUFFER 1024        /* elements of every buffer other than the bytes of a file */
+#define CHANTSPRUCE_MAX_SIZE 30        /* the largest N, and the largest M */
+#define CHANTSPRUCE_MAP_ROOM 2044      /* bytes of the longest map file */
+#define CHANTSPRUCE_PLAN_ROOM 2704     /* bytes of the longest plan file */
+#define CHANTSPRUCE_LISTING_ROOM 32768 /* bytes that are room for every listing */
+#define CHANTSPRUCE_STACK 65536        /* bytes of stack that are enough for every call */
+
+#define CHANTSPRUCE_POSITION(row, column) (32 * (size_t)(row) + (size_t)(column))
+#define CHANTSPRUCE_ROW(position) ((size_t)(position) / 32)
+#define CHANTSPRUCE_COLUMN(position) ((size_t)(position) % 32)
+
+/* WHAT BUFFERS HOLD */
+
+enum {
+    CHANTSPRUCE_HEALTHY = 0,
+    CHANTSPRUCE_FAULTY = 1,
+    CHANTSPRUCE_NO_PROCESSOR = 2
+};
+
+enum {
+    CHANTSPRUCE_NO_PATH = 0,
+    CHANTSPRUCE_SOUTH = 1,
+    CHANTSPRUCE_NORTH = 2,
+    CHANTSPRUCE_EAST = 3,
+    CHANTSPRUCE_WEST = 4
+};
+
+/* the letters of switches are ASCII */
+enum {
+    CHANTSPRUCE_NO_SWITCH = 0,
+    CHANTSPRUCE_LETTER_A = 97,
+    CHANTSPRUCE_LETTER_B = 98,
+    CHANTSPRUCE_LETTER_C = 99,
+    CHANTSPRUCE_LETTER_D = 100
+};
+
+/* SIDES AND PORTS OF A LINK */
+
+/* the side of its cell that a link leaves by */
+enum {
+    CHANTSPRUCE_SIDE_EAST = 0,
+    CHANTSPRUCE_SIDE_SOUTH = 1
+};
+
+/* the port of a processor that a link enters by */
+enum {
+    CHANTSPRUCE_PORT_W = 0,
+    CHANTSPRUCE_PORT_E = 1,
+    CHANTSPRUCE_PORT_N = 2,
+    CHANTSPRUCE_PORT_S = 3
+};
+
+/* OUTCOMES OF THE PLANNER */
+
+enum {
+    CHANTSPRUCE_NO_OUTCOME = 0, /* the call is refused */
+    CHANTSPRUCE_REPAIRED = 1,   /* there is a plan, and it is written */
+    CHANTSPRUCE_BEYOND = 2,     /* there is no plan at all */
+    CHANTSPRUCE_SPENT = 3       /* the limit of trials was reached before either was known */
+};
+
+/* NUMBERS OF REFUSALS
+ *
+ * In a function that takes buffers `place` is a position and, for 6 and 7, `second` the other one; in one that reads a file `place` is a byte
+ * offset. Where nothing is said of a place it is 0.
+ */
+enum {
+    CHANTSPRUCE_ACCEPTED = 0,
+    /* N or M is not 1 to 30. In a file: place is the offset of that number. */
+    CHANTSPRUCE_WRONG_SIZE = 1,
+    /* A buffer other than the bytes of a file is not 1,024 elements long. */
+    CHANTSPRUCE_WRONG_LENGTH = 2,
+    /* The grid has a mark that cannot stand there: neither 0 nor 1 at a processor, or not 2 elsewhere. Place: the lowest such position. */
+    CHANTSPRUCE_WRONG_MARK = 3,
+    /* A direction is above 4, or is 0 at a fault inside the array, or is not 0 elsewhere. Place: the lowest such position. In
+       chantspruce_write_plan, which takes no grid: above 4, or not 0 at a position that is not inside. */
+    CHANTSPRUCE_WRONG_DIRECTION = 4,
+    /* A path runs over another fault or ends on a faulty spare. Place: where the path starts, the lowest of these. */
+    CHANTSPRUCE_PATH_CLOSED = 5,
+    /* Two paths share a processor. Place and second: where they start. */
+    CHANTSPRUCE_PATHS_MEET = 6,
+    /* Two paths are a near-miss. Place and second: where they start. */
+    CHANTSPRUCE_NEAR_MISS = 7,
+    /* The file ends before all that it announces. Place: the length of the file. */
+    CHANTSPRUCE_FILE_CUT = 8,
+    /* A number of two bytes whose second byte is 0 or above 127. Place: the offset of the number. */
+    CHANTSPRUCE_WRONG_NUMBER = 9,
+    /* A fault is at no processor, or a path starts at a position that is not inside. Place: the offset of the record's row. */
+    CHANTSPRUCE_WRONG_POSITION = 10,
+    /* A record has the position of an earlier one. Place: the offset of the later record's row. */
+    CHANTSPRUCE_REPEATED = 11,
+    /* Bytes follow the last record. Place: the offset of the first of them. */
+    CHANTSPRUCE_FILE_GOES_ON = 12,
+    /* The direction of a path in a file is not 1 to 4. Place: the offset of the record's row. */
+    CHANTSPRUCE_WRONG_FILE_DIRECTION = 13,
+    /* The room for what is to be written is too short. Place: the length that is needed. */
+    CHANTSPRUCE_NO_ROOM = 14,
+    /* There is no such cell, or the side is neither 0 nor 1. */
+    CHANTSPRUCE_NO_CELL = 15,
+    /* A switch buffer has a byte that cannot stand there: not a to d at a switch, or not 0 elsewhere. Place: the lowest such position in
+       either buffer. */
+    CHANTSPRUCE_WRONG_LETTER = 16,
+    /* The track ends: at a port that is not joined, where there is no switch, or at a faulty spare. Place: the last switch that the link
+       entered, or the processor of the cell where it entered none. */
+    CHANTSPRUCE_TRACK_ENDS = 17,
+    /* The link would enter a fourth switch. Place: that switch. */
+    CHANTSPRUCE_FOURTH_SWITCH = 18
+};
+
+/* RESULTS */
+
+/* Of the plan check, the placement and the routing. */
+typedef struct chantspruce_verdict {
+    uint32_t number;
+    size_t place;
+    size_t second;
+} chantspruce_verdict;
+
+/* Of the planner and of a run. */
+typedef struct chantspruce_plan {
+    uint32_t number;
+    size_t place;
+    size_t second;
+    uint32_t outcome; /* CHANTSPRUCE_REPAIRED, _BEYOND or _SPENT; CHANTSPRUCE_NO_OUTCOME where the call is refused */
+    uint32_t count;   /* the trials made; the limit where the outcome is _SPENT */
+    size_t links;     /* of a run after _REPAIRED: the links to a neighbour that were followed and found to reach it; else 0 */
+} chantspruce_plan;
+
+/* Of the follower. */
+typedef struct chantspruce_link {
+    uint32_t number;
+    size_t place;
+    size_t second;
+    size_t position;   /* of the processor that the link enters */
+    uint32_t port;     /* CHANTSPRUCE_PORT_W, _E, _N or _S of that processor */
+    uint32_t switches; /* how many switches the link passes: 0 to 3 */
+} chantspruce_link;
+
+/* Of the number reader. */
+typedef struct chantspruce_number {
+    uint32_t number;
+    size_t place;
+    size_t second;
+    uint32_t value; /* the number read: 0 to 16,383 */
+    size_t next;    /* the offset of the byte after it */
+} chantspruce_number;
+
+/* Of the file readers. */
+typedef struct chantspruce_head {
+    uint32_t number;
+    size_t place;
+    size_t second;
+    size_t rows;    /* N */
+    size_t columns; /* M */
+    size_t count;   /* of faults, spares among them, or of paths */
+} chantspruce_head;
+
+/* Of the file writers and of the listing. */
+typedef struct chantspruce_length {
+    uint32_t number;
+    size_t place;
+    size_t second;
+    size_t length; /* how many bytes were written */
+} chantspruce_length;
+
+/* THE REPAIR. `rows` is N and `columns` is M. */
+
+/* Makes the plan of a map and writes it to `directions`, whatever that holds. The faults inside the array are taken in row order and offered
+ * south, north, east and west in this order; each offer is a trial. A fault keeps the first direction whose path is open and is compatible
+ * with the paths before it; where it has none left the fault before it goes on to its next direction. So the plan is the first of all
+ * plans in this order, and the trials it takes depend on the map alone.
+ * The outcome is _SPENT exactly where the map takes more trials than `limit`; else _BEYOND exactly where there is no plan; else _REPAIRED.
+ * After _BEYOND and _SPENT the whole of `directions` is 0.
+ * Refuses 1, 2, 3, in this order. */
+chantspruce_plan chantspruce_plan_repair(size_t rows, size_t columns,
+                                         const uint8_t *grid, size_t grid_length,
+                                         uint8_t *directions, size_t directions_length,
+                                         uint32_t limit);
+
+/* Writes to `places` which processor holds each cell, for a plan.
+ * Refuses 1 to 7, in this order, 6 and 7 pair by pair: what it refuses is no plan for this grid. */
+chantspruce_verdict chantspruce_place_cells(size_t rows, size_t columns,
+                                            const uint8_t *grid, size_t grid_length,
+                                            const uint8_t *directions, size_t directions_length,
+                                            uint16_t *places, size_t places_length);
+
+/* Writes the letters of all switches to `across` and `down`, for a plan.
+ * Refuses 1 to 7, in this order, 6 and 7 pair by pair. */
+chantspruce_verdict chantspruce_route_switches(size_t rows, size_t columns,
+                                               const uint8_t *grid, size_t grid_length,
+                                               const uint8_t *directions, size_t directions_length,
+                                               uint8_t *across, size_t across_length,
+                                               uint8_t *down, size_t down_length);
+
+/* Follows the link of a cell, which is given by its position, on a side (CHANTSPRUCE_SIDE_EAST or _SOUTH) through switches that may
+ * hold any letters. With the letters that chantspruce_route_switches writes for a plan, the link of each cell that has a right neighbour leads
+ * on its east side to the processor that holds this neighbour, by port W, and that of each cell with a lower neighbour on its south side to
+ * that one's, by port N, each over at most three switches and on track that no other of these links uses. A side without a neighbour may be
+ * followed too: its link ends on a spare or is refused.
+ * Refuses 1 to 7, 15, 16, in this order, then 17 or 18. */
+chantspruce_link chantspruce_follow_link(size_t rows, size_t columns,
+                                         const uint8_t *grid, size_t grid_length,
+                                         const uint8_t *directions, size_t directions_length,
+                                         const uint8_t *across, size_t across_length,
+                                         const uint8_t *down, size_t down_length,
+                                         size_t cell, size_t side);
+
+/* One run: the planner, and after _REPAIRED also the other three, with every link to a neighbour followed. `links` is then
+ * N * (M - 1) + M * (N - 1), all of these links. After _BEYOND and _SPENT `places`, `across` and `down` are as before the call.
+ * Refuses 1, 2 (of any of the five buffers), 3, in this order. */
+chantspruce_plan chantspruce_repair_run(size_t rows, size_t columns,
+                                        const uint8_t *grid, size_t grid_length,
+                                        uint32_t limit,
+                                        uint8_t *directions, size_t directions_length,
+                                        uint16_t *places, size_t places_length,
+                                        uint8_t *across, size_t across_length,
+                                        uint8_t *down, size_t down_length);
+
+/* Tells whether `directions` is a plan for the grid, whoever made it. It writes nothing.
+ * Refuses 1 to 7, in this order, 6 and 7 pair by pair: pairs are taken by the first path and then by the second, in row order. */
+chantspruce_verdict chantspruce_check_plan(size_t rows, size_t columns,
+                                           const uint8_t *grid, size_t grid_length,
+                                           const uint8_t *directions, size_t directions_length);
+
+/* FILES */
+
+/* Reads the number at the offset `at` of a file.
+ * Refuses 8, 9. An offset past the end is 8. */
+chantspruce_number chantspruce_read_number(const uint8_t *file, size_t file_length, size_t at);
+
+/* Reads a map file and writes its grid.
+ * Refuses 2, then what comes first in the file: 1 at N and M, 8 and 9 at every number, 10 and 11 at each record; 12 at the end. */
+chantspruce_head chantspruce_read_map(const uint8_t *file, size_t file_length,
+                                      uint8_t *grid, size_t grid_length);
+
+/* Reads a plan file and writes its directions. Only chantspruce_check_plan tells whether they are a plan for a grid.
+ * Refuses 2, then what comes first in the file: 1 at N and M, 8 and 9 at every number, 10, 11 and 13 at each record; 12 at the end. */
+chantspruce_head chantspruce_read_plan(const uint8_t *file, size_t file_length,
+                                       uint8_t *directions, size_t directions_length);
+
+/* Writes the map file of a grid to `out`, which has room for `out_length` bytes, and keeps the bytes after it. CHANTSPRUCE_MAP_ROOM is
+ * always enough.
+ * Refuses 1, 2, 3, 14, in this order. */
+chantspruce_length chantspruce_write_map(size_t rows, size_t columns,
+                                         const uint8_t *grid, size_t grid_length,
+                                         uint8_t *out, size_t out_length);
+
+/* Writes the plan file of directions to `out`, which has room for `out_length` bytes, and keeps the bytes after it. CHANTSPRUCE_PLAN_ROOM is
+ * always enough.
+ * Refuses 1, 2, 4, 14, in this order. */
+chantspruce_length chantspruce_write_plan(size_t rows, size_t columns,
+                                          const uint8_t *directions, size_t directions_length,
+                                          uint8_t *out, size_t out_length);
+
+/* Writes the listing of a map file, as lines of ASCII text without a 0 at the end, to `out`, which has room for `out_length` bytes, and keeps
+ * the bytes after it. CHANTSPRUCE_LISTING_ROOM is always enough. The planner's limit is 1,000,000 trials. The lines are
+ *     map N M faults
+ *     repaired trials | beyond trials | spent limit
+ *     path row column letter              of each fault inside the array, in row order; the letter is S, N, E or W
+ *     cell i j row column                 of each cell, with the processor that holds it
+ *     across letters                      of all across switches, in row order
+ *     down letters                        of all down switches, in row order
+ * with the last four kinds only after `repaired`. For a file that is no map the listing is the line `refused number place`, and the call
+ * is accepted.
+ * Refuses 14. */
+chantspruce_length chantspruce_report(const uint8_t *file, size_t file_length,
+                                      uint8_t *out, size_t out_length);
+
+/* The library is built for machines whose size_t has 64 bits. */
+typedef char chantspruce_size_t_has_64_bits[sizeof(size_t) == 8 ? 1 : -1];
+
+#ifdef __cplusplus
+}
+#endif
+
+#endif
