@@ -1,0 +1,169 @@
+//! Compares every operation of the library with the reference, a million calls each, on sound and damaged inputs from fixed seeds.
+//! Every second call goes through the wrapper's safe functions, the others take the library's flat structs as they come. The program prints
+//! how often each answer came. It fails at the first difference, which it prints with all inputs, and when a possible answer never came.
+
+mod examples;
+mod guarded;
+mod inputs;
+mod operations;
+mod reference;
+
+use guarded::Guarded;
+use inputs::{Case, Maker};
+use operations::{Answer, OPERATIONS, Operation};
+use std::collections::BTreeMap;
+use std::process::ExitCode;
+
+/// How often each operation is called.
+const CALLS: usize = 1_000_000;
+
+/// The buffers of a call, each between guards.
+pub struct Buffers {
+    pub grid: Guarded<u8>,
+    pub directions: Guarded<u8>,
+    pub places: Guarded<u16>,
+    pub across: Guarded<u8>,
+    pub down: Guarded<u8>,
+    pub file: Guarded<u8>,
+    pub out: Guarded<u8>,
+}
+
+impl Buffers {
+    fn new() -> Buffers {
+        Buffers {
+            grid: Guarded::new(),
+            directions: Guarded::new(),
+            places: Guarded::new(),
+            across: Guarded::new(),
+            down: Guarded::new(),
+            file: Guarded::new(),
+            out: Guarded::new(),
+        }
+    }
+
+    fn set(&mut self, case: &Case) {
+        self.grid.set(&case.grid);
+        self.directions.set(&case.directions);
+        self.places.set(&case.places);
+        self.across.set(&case.across);
+        self.down.set(&case.down);
+        self.file.set(&case.file);
+        self.out.set(&case.out);
+    }
+
+    /// The first buffer that differs from the case's or has a guard changed.
+    fn differing(&self, case: &Case) -> Option<&'static str> {
+        let held = [
+            ("grid", self.grid.holds(&case.grid)),
+            ("directions", self.directions.holds(&case.directions)),
+            ("places", self.places.holds(&case.places)),
+            ("across", self.across.holds(&case.across)),
+            ("down", self.down.holds(&case.down)),
+            ("file", self.file.holds(&case.file)),
+            ("out", self.out.holds(&case.out)),
+        ];
+        held.into_iter().find(|(_, same)| !same).map(|(name, _)| name)
+    }
+}
+
+/// Makes one call and says what differs from the reference's answer and buffers.
+fn difference(
+    buffers: &mut Buffers,
+    before: &Case,
+    after: &Case,
+    expected: Answer,
+    call: fn(&Case, &mut Buffers) -> Answer,
+) -> Option<String> {
+    buffers.set(before);
+    let answer = call(before, buffers);
+    if answer != expected {
+        return Some(format!("answer {answer:?}\nshould be {expected:?}"));
+    }
+    let name = buffers.differing(after)?;
+    Some(format!("answer {answer:?}\nthe buffer {name} or a guard beside it is not as it should be\n{}", held(buffers, name, after)))
+}
+
+/// What a byte buffer holds after a call, and what it should.
+fn held(buffers: &mut Buffers, name: &str, after: &Case) -> String {
+    let (buffer, wanted) = match name {
+        "grid" => (&mut buffers.grid, &after.grid),
+        "directions" => (&mut buffers.directions, &after.directions),
+        "across" => (&mut buffers.across, &after.across),
+        "down" => (&mut buffers.down, &after.down),
+        "file" => (&mut buffers.file, &after.file),
+        "out" => (&mut buffers.out, &after.out),
+        _ => return format!("places {:?}\nshould be {:?}", buffers.places.lend(), after.places),
+    };
+    format!("it holds {:?}\nshould be {wanted:?}", buffer.lend())
+}
+
+/// How often each answer came, and how often an accepted call had the largest array.
+#[derive(Default)]
+struct Tally {
+    answers: BTreeMap<u32, usize>,
+    largest: usize,
+}
+
+fn compare(operation: &Operation) -> Result<Tally, String> {
+    let mut maker = Maker::new(operation.seed);
+    let mut buffers = Buffers::new();
+    let mut tally = Tally::default();
+    for index in 0..CALLS {
+        let before = (operation.make)(&mut maker);
+        let mut after = before.clone();
+        let expected = (operation.reference)(&mut after);
+        let call = if index % 2 == 0 { operation.flat } else { operation.safe };
+        if let Some(found) = difference(&mut buffers, &before, &after, expected, call) {
+            return Err(format!("call {index}: {found}\nwith {before:?}"));
+        }
+        *tally.answers.entry((operation.kind)(&expected, &after)).or_default() += 1;
+        tally.largest += usize::from(expected.number == 0 && before.n == 30 && before.m == 30);
+    }
+    Ok(tally)
+}
+
+/// What a tally lacks.
+fn lacking(operation: &Operation, tally: &Tally) -> Option<String> {
+    let missing = operation.kinds.iter().find(|kind| !tally.answers.contains_key(kind));
+    let strange = tally.answers.keys().find(|kind| !operation.kinds.contains(kind));
+    let total: usize = tally.answers.values().sum();
+    missing
+        .map(|&kind| format!("{} never came", operations::kind_name(kind)))
+        .or(strange.map(|&kind| format!("{} should not come", operations::kind_name(kind))))
+        .or((total < CALLS).then(|| format!("only {total} calls")))
+        .or((operation.sized && tally.largest == 0).then(|| "no accepted call with the largest array".to_string()))
+}
+
+fn print(operation: &Operation, tally: &Tally) {
+    let total: usize = tally.answers.values().sum();
+    println!("{}: {total} calls, {} of the accepted ones 30 x 30", operation.name, tally.largest);
+    for (&kind, count) in &tally.answers {
+        println!("    {:<16} {count:>8}", operations::kind_name(kind));
+    }
+}
+
+fn passes(operation: &Operation) -> bool {
+    let problem = match compare(operation) {
+        Ok(tally) => {
+            print(operation, &tally);
+            lacking(operation, &tally)
+        }
+        Err(found) => Some(found),
+    };
+    if let Some(problem) = &problem {
+        println!("FAILED {}: {problem}", operation.name);
+    }
+    problem.is_none()
+}
+
+fn main() -> ExitCode {
+    if let Some(example) = examples::failing() {
+        println!("FAILED: the reference does not give {example}");
+        return ExitCode::FAILURE;
+    }
+    if !OPERATIONS.iter().all(passes) {
+        return ExitCode::FAILURE;
+    }
+    println!("all {} operations agree with the reference", OPERATIONS.len());
+    ExitCode::SUCCESS
+}

@@ -1,0 +1,623 @@
+//! The inputs of the comparison: maps, plans, switches and files, sound and damaged, from a fixed seed for each operation.
+
+use crate::reference::{self, Array, Cell, DIRECTIONS, LENGTH, Outcome, Path, position};
+
+/// The arguments of a call. An operation uses some of them; buffers that it does not use are empty.
+#[derive(Clone, Debug, Default)]
+pub struct Case {
+    pub n: usize,
+    pub m: usize,
+    pub limit: u32,
+    pub cell: usize,
+    pub side: usize,
+    pub at: usize,
+    pub grid: Vec<u8>,
+    pub directions: Vec<u8>,
+    pub places: Vec<u16>,
+    pub across: Vec<u8>,
+    pub down: Vec<u8>,
+    pub file: Vec<u8>,
+    pub out: Vec<u8>,
+}
+
+/// Sizes that no array has.
+const BAD_SIZES: [usize; 8] = [0, 31, 32, 255, 257, 1 << 32, (1 << 32) + 1, usize::MAX];
+
+/// Lengths that no buffer of 1,024 has.
+const BAD_LENGTHS: [usize; 6] = [0, 1, 32, 1023, 1025, 2048];
+
+/// Trials after which the planner is not asked further, where a case needs to know them.
+const ENOUGH: u32 = 2000;
+
+/// One way to damage a case.
+type Damage = fn(&mut Maker, &mut Case);
+
+const MAP_DAMAGES: [Damage; 5] = [Maker::bad_size, Maker::other_size, Maker::bad_length, Maker::bad_mark, Maker::turn_health];
+
+const PLAN_DAMAGES: [Damage; 8] = [
+    Maker::bad_size,
+    Maker::other_size,
+    Maker::bad_length,
+    Maker::bad_mark,
+    Maker::turn_health,
+    Maker::bad_direction,
+    Maker::lost_direction,
+    Maker::turn_direction,
+];
+
+const LINK_DAMAGES: [Damage; 4] = [Maker::bad_switch, Maker::turn_letter, Maker::bad_cell, Maker::bad_side];
+
+pub struct Maker {
+    state: u64,
+    /// What buffers may hold before a call.
+    noise: Vec<u8>,
+    noise_words: Vec<u16>,
+    /// How many of the pairs of bytes were made into a file so far.
+    pairs: usize,
+}
+
+impl Maker {
+    pub fn new(seed: u64) -> Maker {
+        let mut maker = Maker { state: seed, noise: Vec::new(), noise_words: Vec::new(), pairs: 0 };
+        maker.noise = (0..1 << 16).map(|_| maker.random() as u8).collect();
+        maker.noise_words = (0..1 << 16).map(|_| maker.random() as u16).collect();
+        maker
+    }
+
+    // Random choices.
+
+    /// The generator splitmix64.
+    fn random(&mut self) -> u64 {
+        self.state = self.state.wrapping_add(0x9E37_79B9_7F4A_7C15);
+        let mut z = self.state;
+        z = (z ^ (z >> 30)).wrapping_mul(0xBF58_476D_1CE4_E5B9);
+        z = (z ^ (z >> 27)).wrapping_mul(0x94D0_49BB_1331_11EB);
+        z ^ (z >> 31)
+    }
+
+    fn below(&mut self, bound: usize) -> usize {
+        ((self.random() >> 32) as usize * bound) >> 32
+    }
+
+    fn one_in(&mut self, n: usize) -> bool {
+        self.below(n) == 0
+    }
+
+    fn pick<T: Copy>(&mut self, from: &[T]) -> T {
+        from[self.below(from.len())]
+    }
+
+    fn noise(&mut self, length: usize) -> &[u8] {
+        let start = self.below(self.noise.len() - length);
+        &self.noise[start..start + length]
+    }
+
+    fn noise_words(&mut self) -> Vec<u16> {
+        let start = self.below(self.noise_words.len() - LENGTH);
+        self.noise_words[start..start + LENGTH].to_vec()
+    }
+
+    // Maps.
+
+    /// A size: 30 x 30 once in `rare`, sometimes any or to 8 x 8, and mostly to `small` x `small`.
+    fn array(&mut self, rare: usize, small: usize) -> Array {
+        let most = match self.below(rare) {
+            0 => return Array { rows: 30, columns: 30 },
+            1 => 30,
+            2..=40 => 8,
+            _ => small,
+        };
+        Array { rows: 1 + self.below(most), columns: 1 + self.below(most) }
+    }
+
+    /// A case with a map that has no fault.
+    fn healthy(&mut self, array: Array) -> Case {
+        let mut grid = vec![2; LENGTH];
+        for row in 1..=array.rows {
+            grid[32 * row..32 * row + array.columns + 2].fill(0);
+        }
+        for row in [0, array.rows + 1] {
+            grid[32 * row + 1..32 * row + array.columns + 1].fill(0);
+        }
+        Case { n: array.rows, m: array.columns, grid, ..Case::default() }
+    }
+
+    fn inner(&mut self, array: Array) -> Cell {
+        (1 + self.below(array.rows), 1 + self.below(array.columns))
+    }
+
+    fn spare(&mut self, array: Array) -> Cell {
+        let (x, y) = self.inner(array);
+        self.pick(&[(0, y), (array.rows + 1, y), (x, 0), (x, array.columns + 1)])
+    }
+
+    /// A map with faults anywhere, fewer to the row where the array is large.
+    fn scattered(&mut self, array: Array) -> Case {
+        let mut case = self.healthy(array);
+        let area = array.rows * array.columns;
+        let share = self.pick(&[1, 2, 4, 8]) * (1 + (array.rows + array.columns) / 12);
+        for _ in 0..self.below(area / share + 3) {
+            let fault = self.inner(array);
+            case.grid[position(fault)] = 1;
+        }
+        for _ in 0..self.pick(&[0, 0, 1, 2, 4, 8]) {
+            let fault = self.spare(array);
+            case.grid[position(fault)] = 1;
+        }
+        case
+    }
+
+    /// Faults with free choices, and one below them that has none: about as many trials as the listing's limit.
+    fn hard(&mut self) -> Case {
+        let array = Array { rows: 12 + self.below(19), columns: 30 };
+        let mut case = self.healthy(array);
+        for column in (1..30).step_by(2) {
+            let row = 1 + self.below(4);
+            case.grid[position((row, column))] = 1;
+        }
+        let (x, y) = (array.rows - 2, 2 + self.below(28));
+        for fault in [(x, y), (x - 1, y), (x + 1, y), (x, y - 1), (x, y + 1)] {
+            case.grid[position(fault)] = 1;
+        }
+        case
+    }
+
+    /// Gives every inner fault some direction.
+    fn directed(&mut self, mut case: Case) -> Case {
+        case.directions = vec![0; LENGTH];
+        for fault in inner_faults(&case) {
+            case.directions[fault] = 1 + self.below(4) as u8;
+        }
+        case
+    }
+
+    /// A map with a plan, made fault by fault in any order.
+    fn planned(&mut self, array: Array) -> Case {
+        let mut case = self.healthy(array);
+        case.directions = vec![0; LENGTH];
+        let mut paths: Vec<Path> = Vec::new();
+        let mut taken = [false; LENGTH];
+        for _ in 0..self.below(3 * (array.rows + array.columns)) {
+            let start = self.inner(array);
+            let path = Path::new(array, start, self.pick(&DIRECTIONS));
+            let free = path.cells.iter().all(|&c| !taken[position(c)] && case.grid[position(c)] == 0);
+            if free && !paths.iter().any(|p| p.nearly_misses(&path)) {
+                path.cells.iter().for_each(|&c| taken[position(c)] = true);
+                case.grid[position(start)] = 1;
+                case.directions[position(start)] = path.direction as u8;
+                paths.push(path);
+            }
+        }
+        for _ in 0..self.below(4) {
+            let spare = position(self.spare(array));
+            case.grid[spare] = u8::from(!taken[spare]);
+        }
+        case
+    }
+
+    /// A map with directions, which mostly are a plan.
+    fn with_directions(&mut self, array: Array) -> Case {
+        let mut case = match self.below(8) {
+            0 => self.scattered(array),
+            _ => self.planned(array),
+        };
+        if case.directions.is_empty() || self.one_in(6) {
+            return self.directed(case);
+        }
+        for _ in 0..self.pick(&[0, 0, 0, 1, 2]) {
+            self.turn_direction(&mut case);
+        }
+        case
+    }
+
+    // Damages.
+
+    /// Damages one case in `often`, in one way or in up to three.
+    fn spoil(&mut self, case: &mut Case, often: usize, ways: &[Damage]) {
+        if self.one_in(often) {
+            for _ in 0..self.pick(&[1, 1, 1, 1, 2, 3]) {
+                self.pick(ways)(self, case);
+            }
+        }
+    }
+
+    fn bad_size(&mut self, case: &mut Case) {
+        let size = self.pick(&BAD_SIZES);
+        if self.one_in(2) { case.n = size } else { case.m = size }
+    }
+
+    fn other_size(&mut self, case: &mut Case) {
+        let size = 1 + self.below(30);
+        if self.one_in(2) { case.n = size } else { case.m = size }
+    }
+
+    /// Makes one of the buffers in use too short or too long.
+    fn bad_length(&mut self, case: &mut Case) {
+        let length = self.pick(&BAD_LENGTHS);
+        let words = usize::from(!case.places.is_empty());
+        let bytes = [&mut case.grid, &mut case.directions, &mut case.across, &mut case.down];
+        let mut used: Vec<&mut Vec<u8>> = bytes.into_iter().filter(|b| !b.is_empty()).collect();
+        match self.below(used.len() + words) {
+            chosen if chosen < used.len() => used[chosen].resize(length, 0),
+            _ => case.places.resize(length, 0),
+        }
+    }
+
+    /// A position, mostly in the array or beside it.
+    fn place(&mut self, case: &Case) -> usize {
+        match self.below(4) {
+            0 => self.below(LENGTH),
+            _ => position((self.below(case.n.min(29) + 3), self.below(case.m.min(29) + 3))),
+        }
+    }
+
+    /// Changes the byte at some position to one of the given.
+    fn change(&mut self, case: &mut Case, buffer: fn(&mut Case) -> &mut Vec<u8>, bytes: &[u8]) {
+        let (place, byte) = (self.place(case), self.pick(bytes));
+        if let Some(old) = buffer(case).get_mut(place) {
+            *old = byte;
+        }
+    }
+
+    fn bad_mark(&mut self, case: &mut Case) {
+        self.change(case, |c| &mut c.grid, &[0, 1, 2, 3, 255]);
+    }
+
+    fn turn_health(&mut self, case: &mut Case) {
+        let place = self.place(case);
+        if let Some(mark @ 0..=1) = case.grid.get_mut(place) {
+            *mark = 1 - *mark;
+        }
+    }
+
+    fn bad_direction(&mut self, case: &mut Case) {
+        self.change(case, |c| &mut c.directions, &[1, 2, 3, 4, 5, 255]);
+    }
+
+    /// Changes the direction of some path.
+    fn change_path(&mut self, case: &mut Case, bytes: &[u8]) {
+        let starts: Vec<usize> = (0..case.directions.len()).filter(|&p| case.directions[p] != 0).collect();
+        if !starts.is_empty() {
+            let start = self.pick(&starts);
+            case.directions[start] = self.pick(bytes);
+        }
+    }
+
+    fn lost_direction(&mut self, case: &mut Case) {
+        self.change_path(case, &[0, 0, 5, 255]);
+    }
+
+    fn turn_direction(&mut self, case: &mut Case) {
+        self.change_path(case, &[1, 2, 3, 4]);
+    }
+
+    fn bad_switch(&mut self, case: &mut Case) {
+        let bytes = [0, b'a', b'b', b'c', b'd', b'e', b'`', b'A', 255];
+        if self.one_in(2) { self.change(case, |c| &mut c.across, &bytes) } else { self.change(case, |c| &mut c.down, &bytes) }
+    }
+
+    /// Changes letters of switches that there are.
+    fn turn_letter(&mut self, case: &mut Case) {
+        for _ in 0..1 + self.below(4) {
+            let (place, letter) = (self.place(case), b'a' + self.below(4) as u8);
+            let buffer = if self.one_in(2) { &mut case.across } else { &mut case.down };
+            if let Some(b'a'..=b'd') = buffer.get(place) {
+                buffer[place] = letter;
+            }
+        }
+    }
+
+    fn bad_cell(&mut self, case: &mut Case) {
+        let beyond = [0, 31, 32, LENGTH - 1, LENGTH, 1 << 16, 1 << 32, usize::MAX];
+        let wide = [case.cell ^ LENGTH, case.cell ^ (1 << 16), case.cell ^ (1 << 32), case.cell ^ (1 << 63)];
+        case.cell = match self.below(3) {
+            0 => self.pick(&beyond),
+            1 => self.pick(&wide),
+            _ => self.place(case),
+        };
+    }
+
+    fn bad_side(&mut self, case: &mut Case) {
+        case.side = self.pick(&[2, 3, 255, 256, 257, 1 << 32, (1 << 32) + 1, usize::MAX]);
+    }
+
+    // The inputs of each operation.
+
+    pub fn for_check(&mut self) -> Case {
+        let array = self.array(512, 4);
+        let mut case = self.with_directions(array);
+        self.spoil(&mut case, 3, &PLAN_DAMAGES);
+        case
+    }
+
+    pub fn for_placing(&mut self) -> Case {
+        let array = self.array(512, 4);
+        let mut case = self.with_directions(array);
+        case.places = self.noise_words();
+        self.spoil(&mut case, 3, &PLAN_DAMAGES);
+        case
+    }
+
+    pub fn for_routing(&mut self) -> Case {
+        let array = self.array(512, 4);
+        let mut case = self.with_directions(array);
+        case.across = self.noise(LENGTH).to_vec();
+        case.down = self.noise(LENGTH).to_vec();
+        self.spoil(&mut case, 3, &PLAN_DAMAGES);
+        case
+    }
+
+    pub fn for_link(&mut self) -> Case {
+        let array = self.array(512, 6);
+        let mut case = if self.one_in(4) { self.with_directions(array) } else { self.planned(array) };
+        (case.across, case.down) = (vec![0; LENGTH], vec![0; LENGTH]);
+        case.cell = position(self.inner(array));
+        case.side = self.below(2);
+        match self.below(3) {
+            0 => self.any_letters(array, &mut case),
+            roll => self.routed_letters(array, &mut case, roll == 1),
+        }
+        self.spoil(&mut case, 4, &LINK_DAMAGES);
+        self.spoil(&mut case, 8, &PLAN_DAMAGES);
+        case
+    }
+
+    /// Gives every switch the letter that routing gives it, or changes some of these; any letter where the directions are no plan.
+    fn routed_letters(&mut self, array: Array, case: &mut Case, turned: bool) {
+        if reference::route_switches(case.n, case.m, &case.grid, &case.directions, &mut case.across, &mut case.down).is_err() {
+            self.any_letters(array, case);
+        }
+        if turned {
+            self.turn_letter(case);
+        }
+    }
+
+    /// Gives every switch some letter, more often one that joins all its ports.
+    fn any_letters(&mut self, array: Array, case: &mut Case) {
+        for c in array.cells() {
+            if array.has_across(c) {
+                case.across[position(c)] = self.pick(b"abccdd");
+            }
+            if array.has_down(c) {
+                case.down[position(c)] = self.pick(b"abccdd");
+            }
+        }
+    }
+
+    /// A limit for a map: small for most small arrays, else about the trials that the map takes, or far above them.
+    fn limit(&mut self, case: &Case) -> u32 {
+        if case.n * case.m < 100 && !self.one_in(4) {
+            return self.pick(&[0, 1, 2, 3, 4, 5, 6, 8, 12, 20, 50, 100, 500]);
+        }
+        match trials(case) {
+            Some(t) => self.pick(&[t, t.saturating_sub(1), t + 1, u32::MAX]),
+            None => ENOUGH,
+        }
+    }
+
+    fn for_plan(&mut self, rare: usize, small: usize) -> Case {
+        let array = self.array(rare, small);
+        let mut case = match self.below(512) {
+            0 => self.hard(),
+            1..=63 => self.planned(array),
+            _ => self.scattered(array),
+        };
+        case.limit = self.limit(&case);
+        case.directions = self.noise(LENGTH).to_vec();
+        case
+    }
+
+    pub fn for_planner(&mut self) -> Case {
+        let mut case = self.for_plan(512, 4);
+        self.spoil(&mut case, 4, &MAP_DAMAGES);
+        case
+    }
+
+    pub fn for_run(&mut self) -> Case {
+        let mut case = self.for_plan(8192, 2);
+        case.places = self.noise_words();
+        case.across = self.noise(LENGTH).to_vec();
+        case.down = self.noise(LENGTH).to_vec();
+        self.spoil(&mut case, 2, &MAP_DAMAGES);
+        case
+    }
+
+    // Files.
+
+    /// Every pair of bytes in time, and shorter and longer files between them.
+    pub fn for_number(&mut self) -> Case {
+        if self.pairs < 1 << 16 && self.one_in(2) {
+            self.pairs += 1;
+            return Case { file: vec![(self.pairs / 256) as u8, self.pairs as u8], ..Case::default() };
+        }
+        let length = self.below(7);
+        let mut file = self.noise(length).to_vec();
+        for _ in 0..self.below(3) {
+            self.change_byte(&mut file);
+        }
+        let past = [file.len(), file.len() + 1, LENGTH, 1 << 32, usize::MAX - 1, usize::MAX];
+        let at = if self.one_in(8) { self.pick(&past) } else { self.below(file.len()) };
+        Case { file, at, ..Case::default() }
+    }
+
+    /// Sets a byte to one that matters to a number.
+    fn change_byte(&mut self, file: &mut [u8]) {
+        if !file.is_empty() {
+            let at = self.below(file.len());
+            file[at] = self.pick(&[0, 1, 2, 4, 30, 31, 127, 128, 129, 255]);
+        }
+    }
+
+    /// A file of these records in any order, or a damaged one.
+    fn file<const K: usize>(&mut self, array: Array, mut records: Vec<[usize; K]>) -> Vec<u8> {
+        for i in (1..records.len()).rev() {
+            records.swap(i, self.below(i + 1));
+        }
+        if self.one_in(4) {
+            self.spoil_records(&mut records);
+        }
+        let mut file = reference::file_of(array, &records);
+        if self.one_in(3) {
+            for _ in 0..self.pick(&[1, 1, 1, 2]) {
+                self.spoil_file(&mut file);
+            }
+        }
+        file
+    }
+
+    /// Repeats a record, or gives one a number that it should not have.
+    fn spoil_records<const K: usize>(&mut self, records: &mut Vec<[usize; K]>) {
+        if records.is_empty() {
+            return;
+        }
+        let mut record = self.pick(records);
+        if self.one_in(3) {
+            record[K - 1] = 1 + self.below(4);
+            records.push(record);
+        } else {
+            let wrong = [0, 1, 5, 29, 30, 31, 32, 33, 64, 127, 128, 16_383];
+            record[self.below(K)] = self.pick(&wrong);
+            let at = self.below(records.len());
+            records[at] = record;
+        }
+    }
+
+    fn spoil_file(&mut self, file: &mut Vec<u8>) {
+        let at = self.below(file.len() + 1);
+        match self.below(8) {
+            0 => file.truncate(at),
+            1 => file.extend_from_slice(self.noise(1 + at % 3)),
+            2 if at < file.len() => file[at] ^= 1 << self.below(8),
+            3 if at < file.len() => self.long_number(file, at),
+            4 => file.insert(at, self.below(256) as u8),
+            5 => self.change_byte(&mut file[..at.min(3)]),
+            6 if self.one_in(4) => *file = self.noise(at + 4).to_vec(),
+            _ => self.change_byte(file),
+        }
+    }
+
+    /// Puts two bytes for the number at an offset: not its shortest form, with both top bits set, or a larger number.
+    fn long_number(&mut self, file: &mut Vec<u8>, at: usize) {
+        let second = self.pick(&[0, 0, 1, 127, 128, 255]);
+        file[at] |= 128;
+        file.insert(at + 1, second);
+    }
+
+    fn map_file(&mut self, mut case: Case) -> Case {
+        let array = Array { rows: case.n, columns: case.m };
+        case.file = self.file(array, reference::map_records(array, &case.grid));
+        case.grid = Vec::new();
+        case.directions = Vec::new();
+        case
+    }
+
+    pub fn for_map_file(&mut self) -> Case {
+        let array = self.array(512, 4);
+        let mut case = self.scattered(array);
+        if self.one_in(8) {
+            self.any_faults(array, &mut case);
+        }
+        let mut case = self.map_file(case);
+        case.grid = self.noise(LENGTH).to_vec();
+        self.spoil(&mut case, 16, &[Maker::bad_length]);
+        case
+    }
+
+    /// Makes half of all processors faulty, or all of them, for large counts.
+    fn any_faults(&mut self, array: Array, case: &mut Case) {
+        let share = self.pick(&[1, 2, 2]);
+        for c in array.cells().filter(|&c| array.is_processor(c)) {
+            case.grid[position(c)] = u8::from(self.one_in(share));
+        }
+    }
+
+    /// Directions at any inner positions.
+    fn any_directions(&mut self) -> Case {
+        let array = self.array(512, 4);
+        let mut case = Case { n: array.rows, m: array.columns, directions: vec![0; LENGTH], ..Case::default() };
+        let share = self.pick(&[1, 2, 4, 16]);
+        for c in array.inner_cells() {
+            if self.one_in(share) {
+                case.directions[position(c)] = 1 + self.below(4) as u8;
+            }
+        }
+        case
+    }
+
+    pub fn for_plan_file(&mut self) -> Case {
+        let mut case = self.any_directions();
+        let array = Array { rows: case.n, columns: case.m };
+        case.file = self.file(array, reference::plan_records(array, &case.directions));
+        case.directions = self.noise(LENGTH).to_vec();
+        self.spoil(&mut case, 16, &[Maker::bad_length]);
+        case
+    }
+
+    /// A buffer for `needed` bytes: mostly about as long, or of any length.
+    fn room(&mut self, needed: usize) -> Vec<u8> {
+        let length = match self.below(8) {
+            0 => self.below(needed + 1),
+            1 => needed.saturating_sub(1),
+            2 | 3 => needed,
+            4 => needed + 1,
+            _ => needed + self.below(64),
+        };
+        self.noise(length).to_vec()
+    }
+
+    pub fn for_map_writer(&mut self) -> Case {
+        let array = self.array(512, 4);
+        let mut case = self.scattered(array);
+        if self.one_in(16) {
+            self.any_faults(array, &mut case);
+        }
+        let needed = reference::file_of(array, &reference::map_records(array, &case.grid)).len();
+        case.out = self.room(needed);
+        self.spoil(&mut case, 4, &MAP_DAMAGES);
+        case
+    }
+
+    pub fn for_plan_writer(&mut self) -> Case {
+        let mut case = self.any_directions();
+        let array = Array { rows: case.n, columns: case.m };
+        let needed = reference::file_of(array, &reference::plan_records(array, &case.directions)).len();
+        case.out = self.room(needed);
+        self.spoil(&mut case, 4, &[Maker::bad_size, Maker::other_size, Maker::bad_length, Maker::bad_direction, Maker::lost_direction]);
+        case
+    }
+
+    /// A map that is decided soon, except once in very many.
+    fn for_listing(&mut self) -> Case {
+        if self.one_in(50_000) {
+            return self.hard();
+        }
+        let array = self.array(512, 4);
+        let case = if self.one_in(4) { self.planned(array) } else { self.scattered(array) };
+        if trials(&case).is_some() { case } else { self.healthy(array) }
+    }
+
+    pub fn for_report(&mut self) -> Case {
+        let case = self.for_listing();
+        let mut case = self.map_file(case);
+        let guess = 24 * (case.n * case.m + 4);
+        case.out = match self.below(16) {
+            0 => self.room(reference::listing(&case.file).len()),
+            1 => self.room(guess / 2),
+            _ => self.noise(guess + 64).to_vec(),
+        };
+        case
+    }
+}
+
+fn inner_faults(case: &Case) -> Vec<usize> {
+    let array = Array { rows: case.n, columns: case.m };
+    array.inner_cells().map(position).filter(|&p| case.grid[p] == 1).collect()
+}
+
+/// The trials that a map takes, where they are not many.
+fn trials(case: &Case) -> Option<u32> {
+    match reference::plan_repair(case.n, case.m, &case.grid, &mut [0; LENGTH], ENOUGH) {
+        Ok(Outcome::Repaired(t) | Outcome::Beyond(t)) => Some(t),
+        _ => None,
+    }
+}

@@ -1,0 +1,353 @@
+//! The operations under comparison: how inputs are made, what the reference, the library and the wrapper say, and which answers are possible.
+
+use crate::Buffers;
+use crate::inputs::{Case, Maker};
+use crate::reference;
+use chantspruce::{Reason, flat};
+
+/// An answer as plain numbers: the number of the refusal (0 for an accepted call), its two places, and the values.
+#[derive(Clone, Copy, Debug, PartialEq, Eq)]
+pub struct Answer {
+    pub number: u32,
+    place: usize,
+    second: usize,
+    values: [usize; 3],
+}
+
+pub struct Operation {
+    pub name: &'static str,
+    pub seed: u64,
+    pub make: fn(&mut Maker) -> Case,
+    /// These three make the call, on the case's own buffers or on the guarded ones.
+    pub reference: fn(&mut Case) -> Answer,
+    pub flat: fn(&Case, &mut Buffers) -> Answer,
+    pub safe: fn(&Case, &mut Buffers) -> Answer,
+    /// Which answer it is, for the count; the case is as the call left it.
+    pub kind: fn(&Answer, &Case) -> u32,
+    /// All answers there can be.
+    pub kinds: &'static [u32],
+    /// Whether it has an array.
+    pub sized: bool,
+}
+
+/// Kinds of accepted answers that are counted apart; 0 is any other accepted one, and a refusal counts under its number.
+const REPAIRED: u32 = 101;
+const BEYOND: u32 = 102;
+const SPENT: u32 = 103;
+const REFUSED_MAP: u32 = 104;
+
+pub fn kind_name(kind: u32) -> String {
+    match kind {
+        0 => "accepted".to_string(),
+        REPAIRED => "repaired".to_string(),
+        BEYOND => "beyond repair".to_string(),
+        SPENT => "spent".to_string(),
+        REFUSED_MAP => "map refused".to_string(),
+        number => format!("refused {number}"),
+    }
+}
+
+fn by_number(answer: &Answer, _: &Case) -> u32 {
+    answer.number
+}
+
+fn by_outcome(answer: &Answer, _: &Case) -> u32 {
+    match answer.values[0] {
+        _ if answer.number != 0 => answer.number,
+        1 => REPAIRED,
+        2 => BEYOND,
+        _ => SPENT,
+    }
+}
+
+/// The kind of a listing, by its second line.
+fn by_listing(answer: &Answer, after: &Case) -> u32 {
+    let line = after.out.split(|b| *b == b'\n').nth(1).unwrap_or(&[]);
+    match line.first() {
+        _ if answer.number != 0 => answer.number,
+        _ if after.out.starts_with(b"refused") => REFUSED_MAP,
+        Some(b'r') => REPAIRED,
+        Some(b'b') => BEYOND,
+        _ => SPENT,
+    }
+}
+
+// The answers of the three as plain numbers.
+
+const NO_VALUES: [usize; 3] = [0; 3];
+
+/// The reference's.
+fn told<T>(result: Result<T, reference::Refusal>, values: impl Fn(T) -> [usize; 3]) -> Answer {
+    match result {
+        Ok(value) => Answer { number: 0, place: 0, second: 0, values: values(value) },
+        Err(e) => Answer { number: e.number, place: e.place, second: e.second, values: NO_VALUES },
+    }
+}
+
+/// The wrapper's.
+fn said<T>(result: Result<T, chantspruce::Refusal>, values: impl Fn(T) -> [usize; 3]) -> Answer {
+    match result {
+        Ok(value) => Answer { number: 0, place: 0, second: 0, values: values(value) },
+        Err(e) => Answer { number: number_of(e), place: e.place, second: e.second, values: NO_VALUES },
+    }
+}
+
+/// The number of a reason, which the wrapper has to give too.
+fn number_of(refusal: chantspruce::Refusal) -> u32 {
+    let number = match refusal.reason {
+        Reason::Size => 1,
+        Reason::BufferLength => 2,
+        Reason::Mark => 3,
+        Reason::Direction => 4,
+        Reason::NotOpen => 5,
+        Reason::Meeting => 6,
+        Reason::NearMiss => 7,
+        Reason::FileEnds => 8,
+        Reason::NumberForm => 9,
+        Reason::RecordPlace => 10,
+        Reason::Repeated => 11,
+        Reason::Trailing => 12,
+        Reason::RecordDirection => 13,
+        Reason::Room => 14,
+        Reason::NoSuchLink => 15,
+        Reason::SwitchByte => 16,
+        Reason::TrackEnds => 17,
+        Reason::FourthSwitch => 18,
+        Reason::Unknown => u32::MAX,
+    };
+    if refusal.number() == number { number } else { u32::MAX }
+}
+
+fn outcome_told(outcome: reference::Outcome, links: usize) -> [usize; 3] {
+    match outcome {
+        reference::Outcome::Repaired(trials) => [1, trials as usize, links],
+        reference::Outcome::Beyond(trials) => [2, trials as usize, links],
+        reference::Outcome::Spent(limit) => [3, limit as usize, links],
+    }
+}
+
+fn outcome_said(outcome: chantspruce::Outcome, links: usize) -> [usize; 3] {
+    match outcome {
+        chantspruce::Outcome::Repaired(trials) => [1, trials as usize, links],
+        chantspruce::Outcome::Beyond(trials) => [2, trials as usize, links],
+        chantspruce::Outcome::Spent(limit) => [3, limit as usize, links],
+    }
+}
+
+fn link_said(link: chantspruce::Link) -> [usize; 3] {
+    let port = match link.port {
+        chantspruce::Port::West => 0,
+        chantspruce::Port::East => 1,
+        chantspruce::Port::North => 2,
+        chantspruce::Port::South => 3,
+    };
+    [link.position, port, link.switches as usize]
+}
+
+// The library's: every field of its structs.
+
+fn verdict(a: flat::Verdict) -> Answer {
+    Answer { number: a.number, place: a.place, second: a.second, values: NO_VALUES }
+}
+
+fn planned(a: flat::Planned) -> Answer {
+    Answer { number: a.number, place: a.place, second: a.second, values: [a.outcome as usize, a.count as usize, a.links] }
+}
+
+fn followed(a: flat::Followed) -> Answer {
+    Answer { number: a.number, place: a.place, second: a.second, values: [a.position, a.port as usize, a.switches as usize] }
+}
+
+fn number_read(a: flat::NumberRead) -> Answer {
+    Answer { number: a.number, place: a.place, second: a.second, values: [a.value as usize, a.next, 0] }
+}
+
+fn file_read(a: flat::FileRead) -> Answer {
+    Answer { number: a.number, place: a.place, second: a.second, values: [a.rows, a.columns, a.count] }
+}
+
+fn written(a: flat::Written) -> Answer {
+    Answer { number: a.number, place: a.place, second: a.second, values: [a.length, 0, 0] }
+}
+
+pub const OPERATIONS: [Operation; 12] = [
+    CHECK_PLAN,
+    PLAN_REPAIR,
+    PLACE_CELLS,
+    ROUTE_SWITCHES,
+    FOLLOW_LINK,
+    REPAIR_RUN,
+    READ_NUMBER,
+    READ_MAP,
+    READ_PLAN,
+    WRITE_MAP,
+    WRITE_PLAN,
+    REPORT,
+];
+
+const CHECK_PLAN: Operation = Operation {
+    name: "check_plan",
+    seed: 1,
+    make: Maker::for_check,
+    reference: |c| told(reference::check_plan(c.n, c.m, &c.grid, &c.directions), |()| NO_VALUES),
+    flat: |c, b| verdict(flat::check_plan(c.n, c.m, b.grid.lend(), b.directions.lend())),
+    safe: |c, b| said(chantspruce::check_plan(c.n, c.m, b.grid.lend(), b.directions.lend()), |()| NO_VALUES),
+    kind: by_number,
+    kinds: &[0, 1, 2, 3, 4, 5, 6, 7],
+    sized: true,
+};
+
+const PLAN_REPAIR: Operation = Operation {
+    name: "plan_repair",
+    seed: 2,
+    make: Maker::for_planner,
+    reference: |c| told(reference::plan_repair(c.n, c.m, &c.grid, &mut c.directions, c.limit), |o| outcome_told(o, 0)),
+    flat: |c, b| planned(flat::plan_repair(c.n, c.m, b.grid.lend(), b.directions.lend(), c.limit)),
+    safe: |c, b| said(chantspruce::plan_repair(c.n, c.m, b.grid.lend(), b.directions.lend(), c.limit), |o| outcome_said(o, 0)),
+    kind: by_outcome,
+    kinds: &[REPAIRED, BEYOND, SPENT, 1, 2, 3],
+    sized: true,
+};
+
+const PLACE_CELLS: Operation = Operation {
+    name: "place_cells",
+    seed: 3,
+    make: Maker::for_placing,
+    reference: |c| told(reference::place_cells(c.n, c.m, &c.grid, &c.directions, &mut c.places), |()| NO_VALUES),
+    flat: |c, b| verdict(flat::place_cells(c.n, c.m, b.grid.lend(), b.directions.lend(), b.places.lend())),
+    safe: |c, b| said(chantspruce::place_cells(c.n, c.m, b.grid.lend(), b.directions.lend(), b.places.lend()), |()| NO_VALUES),
+    kind: by_number,
+    kinds: &[0, 1, 2, 3, 4, 5, 6, 7],
+    sized: true,
+};
+
+const ROUTE_SWITCHES: Operation = Operation {
+    name: "route_switches",
+    seed: 4,
+    make: Maker::for_routing,
+    reference: |c| told(reference::route_switches(c.n, c.m, &c.grid, &c.directions, &mut c.across, &mut c.down), |()| NO_VALUES),
+    flat: |c, b| verdict(flat::route_switches(c.n, c.m, b.grid.lend(), b.directions.lend(), b.across.lend(), b.down.lend())),
+    safe: |c, b| {
+        let result = chantspruce::route_switches(c.n, c.m, b.grid.lend(), b.directions.lend(), b.across.lend(), b.down.lend());
+        said(result, |()| NO_VALUES)
+    },
+    kind: by_number,
+    kinds: &[0, 1, 2, 3, 4, 5, 6, 7],
+    sized: true,
+};
+
+const FOLLOW_LINK: Operation = Operation {
+    name: "follow_link",
+    seed: 5,
+    make: Maker::for_link,
+    reference: |c| {
+        let result = reference::follow_link(c.n, c.m, &c.grid, &c.directions, &c.across, &c.down, c.cell, c.side);
+        told(result, |a| [a.position, a.port, a.switches])
+    },
+    flat: |c, b| {
+        let (grid, directions, across, down) = (b.grid.lend(), b.directions.lend(), b.across.lend(), b.down.lend());
+        followed(flat::follow_link(c.n, c.m, grid, directions, across, down, c.cell, c.side))
+    },
+    safe: |c, b| {
+        let (grid, directions, across, down) = (b.grid.lend(), b.directions.lend(), b.across.lend(), b.down.lend());
+        said(chantspruce::follow_link(c.n, c.m, grid, directions, across, down, c.cell, c.side), link_said)
+    },
+    kind: by_number,
+    kinds: &[0, 1, 2, 3, 4, 5, 6, 7, 15, 16, 17, 18],
+    sized: true,
+};
+
+const REPAIR_RUN: Operation = Operation {
+    name: "repair_run",
+    seed: 6,
+    make: Maker::for_run,
+    reference: |c| {
+        let (directions, places, across, down) = (&mut c.directions, &mut c.places, &mut c.across, &mut c.down);
+        let result = reference::repair_run(c.n, c.m, &c.grid, c.limit, directions, places, across, down);
+        told(result, |(outcome, links)| outcome_told(outcome, links))
+    },
+    flat: |c, b| {
+        let (directions, places, across, down) = (b.directions.lend(), b.places.lend(), b.across.lend(), b.down.lend());
+        planned(flat::repair_run(c.n, c.m, b.grid.lend(), c.limit, directions, places, across, down))
+    },
+    safe: |c, b| {
+        let (directions, places, across, down) = (b.directions.lend(), b.places.lend(), b.across.lend(), b.down.lend());
+        let result = chantspruce::repair_run(c.n, c.m, b.grid.lend(), c.limit, directions, places, across, down);
+        said(result, |run| outcome_said(run.outcome, run.links))
+    },
+    kind: by_outcome,
+    kinds: &[REPAIRED, BEYOND, SPENT, 1, 2, 3],
+    sized: true,
+};
+
+const READ_NUMBER: Operation = Operation {
+    name: "read_number",
+    seed: 7,
+    make: Maker::for_number,
+    reference: |c| told(reference::read_number(&c.file, c.at), |(value, next)| [value as usize, next, 0]),
+    flat: |c, b| number_read(flat::read_number(b.file.lend(), c.at)),
+    safe: |c, b| said(chantspruce::read_number(b.file.lend(), c.at), |number| [number.value as usize, number.next, 0]),
+    kind: by_number,
+    kinds: &[0, 8, 9],
+    sized: false,
+};
+
+const READ_MAP: Operation = Operation {
+    name: "read_map",
+    seed: 8,
+    make: Maker::for_map_file,
+    reference: |c| told(reference::read_map(&c.file, &mut c.grid), |head| [head.rows, head.columns, head.count]),
+    flat: |_, b| file_read(flat::read_map(b.file.lend(), b.grid.lend())),
+    safe: |_, b| said(chantspruce::read_map(b.file.lend(), b.grid.lend()), |head| [head.rows, head.columns, head.count]),
+    kind: by_number,
+    kinds: &[0, 1, 2, 8, 9, 10, 11, 12],
+    sized: true,
+};
+
+const READ_PLAN: Operation = Operation {
+    name: "read_plan",
+    seed: 9,
+    make: Maker::for_plan_file,
+    reference: |c| told(reference::read_plan(&c.file, &mut c.directions), |head| [head.rows, head.columns, head.count]),
+    flat: |_, b| file_read(flat::read_plan(b.file.lend(), b.directions.lend())),
+    safe: |_, b| said(chantspruce::read_plan(b.file.lend(), b.directions.lend()), |head| [head.rows, head.columns, head.count]),
+    kind: by_number,
+    kinds: &[0, 1, 2, 8, 9, 10, 11, 12, 13],
+    sized: true,
+};
+
+const WRITE_MAP: Operation = Operation {
+    name: "write_map",
+    seed: 10,
+    make: Maker::for_map_writer,
+    reference: |c| told(reference::write_map(c.n, c.m, &c.grid, &mut c.out), |length| [length, 0, 0]),
+    flat: |c, b| written(flat::write_map(c.n, c.m, b.grid.lend(), b.out.lend())),
+    safe: |c, b| said(chantspruce::write_map(c.n, c.m, b.grid.lend(), b.out.lend()), |length| [length, 0, 0]),
+    kind: by_number,
+    kinds: &[0, 1, 2, 3, 14],
+    sized: true,
+};
+
+const WRITE_PLAN: Operation = Operation {
+    name: "write_plan",
+    seed: 11,
+    make: Maker::for_plan_writer,
+    reference: |c| told(reference::write_plan(c.n, c.m, &c.directions, &mut c.out), |length| [length, 0, 0]),
+    flat: |c, b| written(flat::write_plan(c.n, c.m, b.directions.lend(), b.out.lend())),
+    safe: |c, b| said(chantspruce::write_plan(c.n, c.m, b.directions.lend(), b.out.lend()), |length| [length, 0, 0]),
+    kind: by_number,
+    kinds: &[0, 1, 2, 4, 14],
+    sized: true,
+};
+
+const REPORT: Operation = Operation {
+    name: "report",
+    seed: 12,
+    make: Maker::for_report,
+    reference: |c| told(reference::report(&c.file, &mut c.out), |length| [length, 0, 0]),
+    flat: |_, b| written(flat::report(b.file.lend(), b.out.lend())),
+    safe: |_, b| said(chantspruce::report(b.file.lend(), b.out.lend()), |length| [length, 0, 0]),
+    kind: by_listing,
+    kinds: &[REPAIRED, BEYOND, SPENT, REFUSED_MAP, 14],
+    sized: true,
+};

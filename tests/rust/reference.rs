@@ -1,0 +1,763 @@
+//! The operations once more, as plainly as document 01 and docs/DECISIONS.md put them, for the comparison with the library.
+//! Nothing here is taken from the library: paths are lists of cells, and links run over a map of ports.
+
+/// The length of each buffer that is indexed by position.
+pub const LENGTH: usize = 1024;
+
+/// The limit that the listing plans with.
+const LISTING_LIMIT: u32 = 1_000_000;
+
+/// A refusal: its number, place and second place.
+#[derive(Clone, Copy, Debug, PartialEq, Eq)]
+pub struct Refusal {
+    pub number: u32,
+    pub place: usize,
+    pub second: usize,
+}
+
+fn refuse<T>(number: u32, place: usize) -> Result<T, Refusal> {
+    Err(Refusal { number, place, second: 0 })
+}
+
+#[derive(Clone, Copy, Debug, PartialEq, Eq)]
+pub enum Outcome {
+    Repaired(u32),
+    Beyond(u32),
+    Spent(u32),
+}
+
+/// Where a link ends: the position and port entered, and the switches passed.
+#[derive(Clone, Copy, Debug, PartialEq, Eq)]
+pub struct Arrival {
+    pub position: usize,
+    pub port: usize,
+    pub switches: usize,
+}
+
+/// N, M and the count of a file.
+#[derive(Clone, Copy, Debug, PartialEq, Eq)]
+pub struct Head {
+    pub rows: usize,
+    pub columns: usize,
+    pub count: usize,
+}
+
+/// Row and column.
+pub type Cell = (usize, usize);
+
+pub fn position(cell: Cell) -> usize {
+    32 * cell.0 + cell.1
+}
+
+fn cell(position: usize) -> Cell {
+    (position / 32, position % 32)
+}
+
+/// An array of an allowed size.
+#[derive(Clone, Copy)]
+pub struct Array {
+    pub rows: usize,
+    pub columns: usize,
+}
+
+impl Array {
+    pub fn new(n: usize, m: usize) -> Option<Array> {
+        let allowed = 1..=30;
+        (allowed.contains(&n) && allowed.contains(&m)).then_some(Array { rows: n, columns: m })
+    }
+
+    pub fn is_inner(&self, (x, y): Cell) -> bool {
+        (1..=self.rows).contains(&x) && (1..=self.columns).contains(&y)
+    }
+
+    pub fn is_processor(&self, (x, y): Cell) -> bool {
+        let outer_row = x == 0 || x == self.rows + 1;
+        let outer_column = y == 0 || y == self.columns + 1;
+        x <= self.rows + 1 && y <= self.columns + 1 && !(outer_row && outer_column)
+    }
+
+    pub fn has_across(&self, (x, y): Cell) -> bool {
+        self.is_processor((x, y)) && self.is_processor((x, y + 1))
+    }
+
+    pub fn has_down(&self, (x, y): Cell) -> bool {
+        self.is_processor((x, y)) && self.is_processor((x + 1, y))
+    }
+
+    /// All rows and columns of the array, corners included, in row order.
+    pub fn cells(self) -> impl Iterator<Item = Cell> {
+        (0..=self.rows + 1).flat_map(move |x| (0..=self.columns + 1).map(move |y| (x, y)))
+    }
+
+    /// The logical cells in row order.
+    pub fn inner_cells(self) -> impl Iterator<Item = Cell> {
+        self.cells().filter(move |&c| self.is_inner(c))
+    }
+}
+
+/// The lowest position at which a test of a buffer fails.
+fn lowest(wrong: impl Fn(Cell, usize) -> bool) -> Option<usize> {
+    for x in 0..32 {
+        for y in 0..32 {
+            if wrong((x, y), position((x, y))) {
+                return Some(position((x, y)));
+            }
+        }
+    }
+    None
+}
+
+// The tests 1 to 7.
+
+fn test_size(n: usize, m: usize) -> Result<Array, Refusal> {
+    Array::new(n, m).map_or_else(|| refuse(1, 0), Ok)
+}
+
+fn test_lengths(lengths: &[usize]) -> Result<(), Refusal> {
+    if lengths.iter().all(|&l| l == LENGTH) { Ok(()) } else { refuse(2, 0) }
+}
+
+fn test_marks(array: Array, grid: &[u8]) -> Result<(), Refusal> {
+    let wrong = |c: Cell, p: usize| if array.is_processor(c) { grid[p] > 1 } else { grid[p] != 2 };
+    lowest(wrong).map_or(Ok(()), |p| refuse(3, p))
+}
+
+/// The tests 1 to 3; `others` are the lengths of the buffers besides the grid.
+fn test_map(n: usize, m: usize, grid: &[u8], others: &[usize]) -> Result<Array, Refusal> {
+    let array = test_size(n, m)?;
+    test_lengths(&[grid.len()])?;
+    test_lengths(others)?;
+    test_marks(array, grid)?;
+    Ok(array)
+}
+
+fn test_directions(array: Array, grid: &[u8], directions: &[u8]) -> Result<(), Refusal> {
+    let is_fault = |c: Cell, p: usize| array.is_inner(c) && grid[p] == 1;
+    let wrong = |c: Cell, p: usize| if is_fault(c, p) { !(1..=4).contains(&directions[p]) } else { directions[p] != 0 };
+    lowest(wrong).map_or(Ok(()), |p| refuse(4, p))
+}
+
+#[derive(Clone, Copy, PartialEq, Eq)]
+pub enum Direction {
+    South = 1,
+    North = 2,
+    East = 3,
+    West = 4,
+}
+
+use Direction::{East, North, South, West};
+
+/// The directions in the order in which they are tried, which is that of their bytes.
+pub const DIRECTIONS: [Direction; 4] = [South, North, East, West];
+
+pub struct Path {
+    pub start: Cell,
+    pub direction: Direction,
+    /// From the start to the spare.
+    pub cells: Vec<Cell>,
+}
+
+impl Path {
+    pub fn new(array: Array, start: Cell, direction: Direction) -> Path {
+        let (x, y) = start;
+        let cells = match direction {
+            South => (x..=array.rows + 1).map(|r| (r, y)).collect(),
+            North => (0..=x).rev().map(|r| (r, y)).collect(),
+            East => (y..=array.columns + 1).map(|c| (x, c)).collect(),
+            West => (0..=y).rev().map(|c| (x, c)).collect(),
+        };
+        Path { start, direction, cells }
+    }
+
+    pub fn is_vertical(&self) -> bool {
+        matches!(self.direction, South | North)
+    }
+
+    pub fn is_open(&self, grid: &[u8]) -> bool {
+        self.cells[1..].iter().all(|&c| grid[position(c)] == 0)
+    }
+
+    fn meets(&self, other: &Path) -> bool {
+        self.cells.iter().any(|c| other.cells.contains(c))
+    }
+
+    pub fn nearly_misses(&self, other: &Path) -> bool {
+        opposed(self, other) || opposed(other, self)
+    }
+}
+
+/// The near-miss rule for a south path with a north path and an east path with a west path.
+fn opposed(a: &Path, b: &Path) -> bool {
+    let ((x1, y1), (x2, y2)) = (a.start, b.start);
+    match (a.direction, b.direction) {
+        (South, North) => y1.abs_diff(y2) == 1 && x1 < x2,
+        (East, West) => x1.abs_diff(x2) == 1 && y1 < y2,
+        _ => false,
+    }
+}
+
+fn inner_faults(array: Array, grid: &[u8]) -> Vec<Cell> {
+    array.inner_cells().filter(|&c| grid[position(c)] == 1).collect()
+}
+
+fn paths(array: Array, grid: &[u8], directions: &[u8]) -> Vec<Path> {
+    let direction = |c: Cell| DIRECTIONS[directions[position(c)] as usize - 1];
+    inner_faults(array, grid).into_iter().map(|c| Path::new(array, c, direction(c))).collect()
+}
+
+fn test_pairs(paths: &[Path]) -> Result<(), Refusal> {
+    for (i, a) in paths.iter().enumerate() {
+        for b in &paths[i + 1..] {
+            let refused = |number| Err(Refusal { number, place: position(a.start), second: position(b.start) });
+            if a.meets(b) {
+                return refused(6);
+            }
+            if a.nearly_misses(b) {
+                return refused(7);
+            }
+        }
+    }
+    Ok(())
+}
+
+/// A map with a plan for it.
+struct Planned {
+    array: Array,
+    paths: Vec<Path>,
+}
+
+/// The tests 1 to 7; `others` are the lengths of the buffers besides grid and directions.
+fn test_plan(n: usize, m: usize, grid: &[u8], directions: &[u8], others: &[usize]) -> Result<Planned, Refusal> {
+    let array = test_map(n, m, grid, &[&[directions.len()], others].concat())?;
+    test_directions(array, grid, directions)?;
+    let paths = paths(array, grid, directions);
+    if let Some(closed) = paths.iter().find(|p| !p.is_open(grid)) {
+        return refuse(5, position(closed.start));
+    }
+    test_pairs(&paths)?;
+    Ok(Planned { array, paths })
+}
+
+pub fn check_plan(n: usize, m: usize, grid: &[u8], directions: &[u8]) -> Result<(), Refusal> {
+    test_plan(n, m, grid, directions, &[]).map(|_| ())
+}
+
+// The planner.
+
+struct Search<'a> {
+    array: Array,
+    grid: &'a [u8],
+    faults: Vec<Cell>,
+    kept: Vec<Path>,
+    /// The cells of the kept paths.
+    taken: [bool; LENGTH],
+    trials: u32,
+    limit: u32,
+}
+
+enum End {
+    Full,
+    Exhausted,
+    Spent,
+}
+
+impl Search<'_> {
+    /// Tries the directions of the next fault, each with all that can follow it.
+    fn extend(&mut self) -> End {
+        let Some(&fault) = self.faults.get(self.kept.len()) else {
+            return End::Full;
+        };
+        for direction in DIRECTIONS {
+            if self.trials == self.limit {
+                return End::Spent;
+            }
+            self.trials += 1;
+            let path = Path::new(self.array, fault, direction);
+            if !self.fits(&path) {
+                continue;
+            }
+            self.keep(path);
+            match self.extend() {
+                End::Exhausted => self.undo(),
+                end => return end,
+            }
+        }
+        End::Exhausted
+    }
+
+    fn fits(&self, path: &Path) -> bool {
+        let free = path.cells.iter().all(|&c| !self.taken[position(c)]);
+        free && path.is_open(self.grid) && !self.kept.iter().any(|k| k.nearly_misses(path))
+    }
+
+    fn keep(&mut self, path: Path) {
+        path.cells.iter().for_each(|&c| self.taken[position(c)] = true);
+        self.kept.push(path);
+    }
+
+    fn undo(&mut self) {
+        if let Some(path) = self.kept.pop() {
+            path.cells.iter().for_each(|&c| self.taken[position(c)] = false);
+        }
+    }
+}
+
+/// The outcome, with the paths found.
+fn search(array: Array, grid: &[u8], limit: u32) -> (Outcome, Vec<Path>) {
+    let faults = inner_faults(array, grid);
+    let mut search = Search { array, grid, faults, kept: Vec::new(), taken: [false; LENGTH], trials: 0, limit };
+    match search.extend() {
+        End::Full => (Outcome::Repaired(search.trials), search.kept),
+        End::Exhausted => (Outcome::Beyond(search.trials), Vec::new()),
+        End::Spent => (Outcome::Spent(limit), Vec::new()),
+    }
+}
+
+fn write_directions(paths: &[Path], directions: &mut [u8]) {
+    directions.fill(0);
+    for path in paths {
+        directions[position(path.start)] = path.direction as u8;
+    }
+}
+
+pub fn plan_repair(n: usize, m: usize, grid: &[u8], directions: &mut [u8], limit: u32) -> Result<Outcome, Refusal> {
+    let array = test_map(n, m, grid, &[directions.len()])?;
+    let (outcome, paths) = search(array, grid, limit);
+    write_directions(&paths, directions);
+    Ok(outcome)
+}
+
+// Placement and routing.
+
+fn write_places(plan: &Planned, places: &mut [u16]) {
+    places.fill(0);
+    for c in plan.array.inner_cells() {
+        places[position(c)] = position(c) as u16;
+    }
+    for step in plan.paths.iter().flat_map(|p| p.cells.windows(2)) {
+        places[position(step[0])] = position(step[1]) as u16;
+    }
+}
+
+pub fn place_cells(n: usize, m: usize, grid: &[u8], directions: &[u8], places: &mut [u16]) -> Result<(), Refusal> {
+    let plan = test_plan(n, m, grid, directions, &[places.len()])?;
+    write_places(&plan, places);
+    Ok(())
+}
+
+/// The letters by the states of two processors: a row for each state of the first.
+const TABLE: [&[u8; 5]; 5] = [b"bccdd", b"dbdxx", b"dcxax", b"cxaxd", b"cxxcb"];
+
+fn letter(first: usize, second: usize) -> u8 {
+    match TABLE[first][second] {
+        b'x' => b'b',
+        letter => letter,
+    }
+}
+
+/// The routing states along the paths of two opposite directions: 1 and 2 on the first, 4 and 3 on the second, healthy and faulty.
+fn states(plan: &Planned, first: Direction, second: Direction) -> [usize; LENGTH] {
+    let mut states = [0; LENGTH];
+    for path in &plan.paths {
+        let (healthy, faulty) = match path.direction {
+            d if d == first => (1, 2),
+            d if d == second => (4, 3),
+            _ => continue,
+        };
+        path.cells.iter().for_each(|&c| states[position(c)] = healthy);
+        states[position(path.start)] = faulty;
+    }
+    states
+}
+
+fn write_switches(plan: &Planned, across: &mut [u8], down: &mut [u8]) {
+    let vertical = states(plan, South, North);
+    let horizontal = states(plan, East, West);
+    across.fill(0);
+    down.fill(0);
+    for (x, y) in plan.array.cells() {
+        let here = position((x, y));
+        if plan.array.has_across((x, y)) {
+            across[here] = letter(vertical[here], vertical[position((x, y + 1))]);
+        }
+        if plan.array.has_down((x, y)) {
+            down[here] = letter(horizontal[here], horizontal[position((x + 1, y))]);
+        }
+    }
+}
+
+pub fn route_switches(n: usize, m: usize, grid: &[u8], directions: &[u8], across: &mut [u8], down: &mut [u8]) -> Result<(), Refusal> {
+    let plan = test_plan(n, m, grid, directions, &[across.len(), down.len()])?;
+    write_switches(&plan, across, down);
+    Ok(())
+}
+
+// The follower.
+
+/// The kinds of things that have ports.
+const PROCESSOR: usize = 0;
+const ACROSS: usize = 1;
+const DOWN: usize = 2;
+
+/// The ports of each.
+const W: usize = 0;
+const E: usize = 1;
+const N: usize = 2;
+const S: usize = 3;
+
+const PORTS: usize = 3 * LENGTH * 4;
+const NOTHING: u16 = u16::MAX;
+
+/// A port as one number.
+fn port(kind: usize, c: Cell, side: usize) -> usize {
+    (kind * LENGTH + position(c)) * 4 + side
+}
+
+/// The track of a wafer: for each port the port at the other end of its stretch, and the port that it is joined to inside.
+struct Track {
+    stretch: [u16; PORTS],
+    join: [u16; PORTS],
+}
+
+fn pair(map: &mut [u16; PORTS], a: usize, b: usize) {
+    map[a] = b as u16;
+    map[b] = a as u16;
+}
+
+/// The ports that a letter joins, in an across switch and in a down switch.
+fn joins(kind: usize, letter: u8) -> &'static [(usize, usize)] {
+    match (kind, letter) {
+        (ACROSS, b'a') => &[(N, S)],
+        (ACROSS, b'b') => &[(W, E)],
+        (ACROSS, b'c') => &[(W, S), (E, N)],
+        (ACROSS, b'd') => &[(W, N), (E, S)],
+        (DOWN, b'a') => &[(W, E)],
+        (DOWN, b'b') => &[(N, S)],
+        (DOWN, b'c') => &[(N, E), (S, W)],
+        (DOWN, b'd') => &[(N, W), (S, E)],
+        _ => &[],
+    }
+}
+
+impl Track {
+    fn new(plan: &Planned, across: &[u8], down: &[u8]) -> Track {
+        let mut track = Track { stretch: [NOTHING; PORTS], join: [NOTHING; PORTS] };
+        for c in plan.array.cells() {
+            track.lay_across(plan.array, c, across);
+            track.lay_down(plan.array, c, down);
+        }
+        for path in &plan.paths {
+            let (a, b) = if path.is_vertical() { (N, S) } else { (W, E) };
+            pair(&mut track.join, port(PROCESSOR, path.start, a), port(PROCESSOR, path.start, b));
+        }
+        track
+    }
+
+    fn lay_across(&mut self, array: Array, (x, y): Cell, letters: &[u8]) {
+        if !array.has_across((x, y)) {
+            return;
+        }
+        pair(&mut self.stretch, port(PROCESSOR, (x, y), E), port(ACROSS, (x, y), W));
+        pair(&mut self.stretch, port(ACROSS, (x, y), E), port(PROCESSOR, (x, y + 1), W));
+        if array.has_across((x + 1, y)) {
+            pair(&mut self.stretch, port(ACROSS, (x, y), S), port(ACROSS, (x + 1, y), N));
+        }
+        self.join_switch(ACROSS, (x, y), letters);
+    }
+
+    fn lay_down(&mut self, array: Array, (x, y): Cell, letters: &[u8]) {
+        if !array.has_down((x, y)) {
+            return;
+        }
+        pair(&mut self.stretch, port(PROCESSOR, (x, y), S), port(DOWN, (x, y), N));
+        pair(&mut self.stretch, port(DOWN, (x, y), S), port(PROCESSOR, (x + 1, y), N));
+        if array.has_down((x, y + 1)) {
+            pair(&mut self.stretch, port(DOWN, (x, y), E), port(DOWN, (x, y + 1), W));
+        }
+        self.join_switch(DOWN, (x, y), letters);
+    }
+
+    fn join_switch(&mut self, kind: usize, c: Cell, letters: &[u8]) {
+        for &(a, b) in joins(kind, letters[position(c)]) {
+            pair(&mut self.join, port(kind, c, a), port(kind, c, b));
+        }
+    }
+
+    /// The end of the link that leaves the processor `from` by the port `side`.
+    fn follow(&self, grid: &[u8], from: usize, side: usize) -> Result<Arrival, Refusal> {
+        let mut leaving = port(PROCESSOR, cell(from), side);
+        let (mut last, mut switches) = (from, 0);
+        loop {
+            let entered = self.stretch[leaving];
+            if entered == NOTHING {
+                return refuse(17, last);
+            }
+            let place = entered as usize / 4 % LENGTH;
+            let is_switch = entered as usize / 4 >= LENGTH;
+            if is_switch && switches == 3 {
+                return refuse(18, place);
+            }
+            if is_switch {
+                (last, switches) = (place, switches + 1);
+            } else if grid[place] == 0 {
+                return Ok(Arrival { position: place, port: entered as usize % 4, switches });
+            }
+            if self.join[entered as usize] == NOTHING {
+                return refuse(17, last);
+            }
+            leaving = self.join[entered as usize] as usize;
+        }
+    }
+}
+
+fn test_switches(array: Array, across: &[u8], down: &[u8]) -> Result<(), Refusal> {
+    let fits = |switch: bool, byte: u8| if switch { (b'a'..=b'd').contains(&byte) } else { byte == 0 };
+    let wrong = |c: Cell, p: usize| !fits(array.has_across(c), across[p]) || !fits(array.has_down(c), down[p]);
+    lowest(wrong).map_or(Ok(()), |p| refuse(16, p))
+}
+
+#[allow(clippy::too_many_arguments)]
+pub fn follow_link(
+    n: usize,
+    m: usize,
+    grid: &[u8],
+    directions: &[u8],
+    across: &[u8],
+    down: &[u8],
+    of: usize,
+    side: usize,
+) -> Result<Arrival, Refusal> {
+    let plan = test_plan(n, m, grid, directions, &[across.len(), down.len()])?;
+    if !plan.array.is_inner(cell(of)) || side > 1 {
+        return refuse(15, 0);
+    }
+    test_switches(plan.array, across, down)?;
+    let mut places = [0; LENGTH];
+    write_places(&plan, &mut places);
+    Track::new(&plan, across, down).follow(grid, places[of] as usize, [E, S][side])
+}
+
+// The run.
+
+/// Outcome and links found to reach their neighbour.
+pub type Ran = (Outcome, usize);
+
+#[allow(clippy::too_many_arguments)]
+pub fn repair_run(
+    n: usize,
+    m: usize,
+    grid: &[u8],
+    limit: u32,
+    directions: &mut [u8],
+    places: &mut [u16],
+    across: &mut [u8],
+    down: &mut [u8],
+) -> Result<Ran, Refusal> {
+    let array = test_map(n, m, grid, &[directions.len(), places.len(), across.len(), down.len()])?;
+    let (outcome, paths) = search(array, grid, limit);
+    write_directions(&paths, directions);
+    let Outcome::Repaired(_) = outcome else {
+        return Ok((outcome, 0));
+    };
+    let plan = Planned { array, paths };
+    write_places(&plan, places);
+    write_switches(&plan, across, down);
+    Ok((outcome, count_links(&plan, grid, places, &Track::new(&plan, across, down))))
+}
+
+fn count_links(plan: &Planned, grid: &[u8], places: &[u16], track: &Track) -> usize {
+    let mut links = 0;
+    for (i, j) in plan.array.inner_cells() {
+        for (side, neighbour, port) in [(E, (i, j + 1), W), (S, (i + 1, j), N)] {
+            let end = track.follow(grid, places[position((i, j))] as usize, side);
+            let wanted = places[position(neighbour)] as usize;
+            let arrived = end.is_ok_and(|a| a.position == wanted && a.port == port && a.switches <= 3);
+            links += usize::from(plan.array.is_inner(neighbour) && arrived);
+        }
+    }
+    links
+}
+
+// Files.
+
+/// The value of the number at an offset, and the offset after it.
+pub fn read_number(file: &[u8], at: usize) -> Result<(u32, usize), Refusal> {
+    match file.get(at..).unwrap_or(&[]) {
+        [] => refuse(8, file.len()),
+        [only, ..] if *only < 128 => Ok((u32::from(*only), at + 1)),
+        [_] => refuse(8, file.len()),
+        [_, 0 | 128.., ..] => refuse(9, at),
+        [low, high, ..] => Ok((u32::from(*low) - 128 + 128 * u32::from(*high), at + 2)),
+    }
+}
+
+/// A file read from left to right.
+struct Reader<'a> {
+    file: &'a [u8],
+    at: usize,
+}
+
+impl Reader<'_> {
+    fn number(&mut self) -> Result<usize, Refusal> {
+        let (value, next) = read_number(self.file, self.at)?;
+        self.at = next;
+        Ok(value as usize)
+    }
+
+    fn side(&mut self) -> Result<usize, Refusal> {
+        let start = self.at;
+        match self.number()? {
+            value @ 1..=30 => Ok(value),
+            _ => refuse(1, start),
+        }
+    }
+
+    fn end(&self) -> Result<(), Refusal> {
+        if self.at == self.file.len() { Ok(()) } else { refuse(12, self.at) }
+    }
+}
+
+pub fn read_map(file: &[u8], grid: &mut [u8]) -> Result<Head, Refusal> {
+    test_lengths(&[grid.len()])?;
+    let mut reader = Reader { file, at: 0 };
+    let array = Array { rows: reader.side()?, columns: reader.side()? };
+    let mut marks = [2; LENGTH];
+    array.cells().filter(|&c| array.is_processor(c)).for_each(|c| marks[position(c)] = 0);
+    let count = reader.number()?;
+    for _ in 0..count {
+        let start = reader.at;
+        let fault = (reader.number()?, reader.number()?);
+        if !array.is_processor(fault) {
+            return refuse(10, start);
+        }
+        if marks[position(fault)] == 1 {
+            return refuse(11, start);
+        }
+        marks[position(fault)] = 1;
+    }
+    reader.end()?;
+    grid.copy_from_slice(&marks);
+    Ok(Head { rows: array.rows, columns: array.columns, count })
+}
+
+pub fn read_plan(file: &[u8], directions: &mut [u8]) -> Result<Head, Refusal> {
+    test_lengths(&[directions.len()])?;
+    let mut reader = Reader { file, at: 0 };
+    let array = Array { rows: reader.side()?, columns: reader.side()? };
+    let mut found = [0; LENGTH];
+    let count = reader.number()?;
+    for _ in 0..count {
+        let place = reader.at;
+        let start = (reader.number()?, reader.number()?);
+        let direction = reader.number()?;
+        if !array.is_inner(start) {
+            return refuse(10, place);
+        }
+        if found[position(start)] != 0 {
+            return refuse(11, place);
+        }
+        if !(1..=4).contains(&direction) {
+            return refuse(13, place);
+        }
+        found[position(start)] = direction as u8;
+    }
+    reader.end()?;
+    directions.copy_from_slice(&found);
+    Ok(Head { rows: array.rows, columns: array.columns, count })
+}
+
+fn push_number(file: &mut Vec<u8>, value: usize) {
+    if value < 128 {
+        file.push(value as u8);
+    } else {
+        file.extend([(value % 128 + 128) as u8, (value / 128) as u8]);
+    }
+}
+
+/// A file of records that have the given numbers each.
+pub fn file_of<R: AsRef<[usize]>>(array: Array, records: &[R]) -> Vec<u8> {
+    let mut file = Vec::new();
+    let head = [array.rows, array.columns, records.len()];
+    for &value in head.iter().chain(records.iter().flat_map(|r| r.as_ref())) {
+        push_number(&mut file, value);
+    }
+    file
+}
+
+/// Puts all bytes at the front of `out`, or none.
+fn put(bytes: &[u8], out: &mut [u8]) -> Result<usize, Refusal> {
+    let Some(front) = out.get_mut(..bytes.len()) else {
+        return refuse(14, bytes.len());
+    };
+    front.copy_from_slice(bytes);
+    Ok(bytes.len())
+}
+
+/// The faults of a map, spares included, in row order.
+pub fn map_records(array: Array, grid: &[u8]) -> Vec<[usize; 2]> {
+    array.cells().filter(|&c| grid[position(c)] == 1).map(|(x, y)| [x, y]).collect()
+}
+
+/// The paths of a direction buffer in row order.
+pub fn plan_records(array: Array, directions: &[u8]) -> Vec<[usize; 3]> {
+    let record = |(x, y): Cell| [x, y, directions[position((x, y))] as usize];
+    array.inner_cells().map(record).filter(|r| r[2] != 0).collect()
+}
+
+pub fn write_map(n: usize, m: usize, grid: &[u8], out: &mut [u8]) -> Result<usize, Refusal> {
+    let array = test_map(n, m, grid, &[])?;
+    put(&file_of(array, &map_records(array, grid)), out)
+}
+
+pub fn write_plan(n: usize, m: usize, directions: &[u8], out: &mut [u8]) -> Result<usize, Refusal> {
+    let array = test_size(n, m)?;
+    test_lengths(&[directions.len()])?;
+    if let Some(p) = lowest(|c, p| directions[p] > 4 || (directions[p] != 0 && !array.is_inner(c))) {
+        return refuse(4, p);
+    }
+    put(&file_of(array, &plan_records(array, directions)), out)
+}
+
+// The listing.
+
+/// The listing of a map file.
+pub fn listing(file: &[u8]) -> String {
+    let mut grid = [0; LENGTH];
+    match read_map(file, &mut grid) {
+        Err(e) => format!("refused {} {}\n", e.number, e.place),
+        Ok(head) => list_map(head, &grid),
+    }
+}
+
+fn list_map(head: Head, grid: &[u8]) -> String {
+    let array = Array { rows: head.rows, columns: head.columns };
+    let first = format!("map {} {} {}\n", head.rows, head.columns, head.count);
+    let (outcome, paths) = search(array, grid, LISTING_LIMIT);
+    match outcome {
+        Outcome::Beyond(trials) => format!("{first}beyond {trials}\n"),
+        Outcome::Spent(limit) => format!("{first}spent {limit}\n"),
+        Outcome::Repaired(trials) => format!("{first}repaired {trials}\n{}", list_plan(&Planned { array, paths })),
+    }
+}
+
+fn list_plan(plan: &Planned) -> String {
+    let mut text = String::new();
+    for path in &plan.paths {
+        let letter = ["S", "N", "E", "W"][path.direction as usize - 1];
+        text += &format!("path {} {} {letter}\n", path.start.0, path.start.1);
+    }
+    let mut places = [0; LENGTH];
+    write_places(plan, &mut places);
+    for (i, j) in plan.array.inner_cells() {
+        let (row, column) = cell(places[position((i, j))] as usize);
+        text += &format!("cell {i} {j} {row} {column}\n");
+    }
+    let (mut across, mut down) = ([0; LENGTH], [0; LENGTH]);
+    write_switches(plan, &mut across, &mut down);
+    let letters = |buffer: &[u8]| buffer.iter().filter(|b| **b != 0).map(|b| *b as char).collect::<String>();
+    text + &format!("across {}\ndown {}\n", letters(&across), letters(&down))
+}
+
+pub fn report(file: &[u8], out: &mut [u8]) -> Result<usize, Refusal> {
+    put(listing(file).as_bytes(), out)
+}
