@@ -1,0 +1,509 @@
+//! The library's algorithms once more, in plain Rust: what speed.rs measures the library against.
+
+pub const LONG: usize = 1024;
+
+#[derive(Clone, Copy, Debug, PartialEq)]
+pub struct Refusal {
+    pub number: u8,
+    pub place: usize,
+    pub second: usize,
+}
+
+pub type Tested = Result<(), Refusal>;
+
+fn refuse<T>(number: u8, place: usize, second: usize) -> Result<T, Refusal> {
+    Err(Refusal { number, place, second })
+}
+
+// Positions and maps.
+
+fn is_inner_at(n: usize, m: usize, x: usize, y: usize) -> bool {
+    1 <= x && x <= n && 1 <= y && y <= m
+}
+
+fn is_inner(n: usize, m: usize, p: usize) -> bool {
+    is_inner_at(n, m, p / 32, p % 32)
+}
+
+fn is_processor_at(n: usize, m: usize, x: usize, y: usize) -> bool {
+    x <= n + 1 && y <= m + 1 && !((x == 0 || x == n + 1) && (y == 0 || y == m + 1))
+}
+
+fn check_map(n: usize, m: usize, right: bool, grid: &[u8]) -> Tested {
+    if !((1..=30).contains(&n) && (1..=30).contains(&m)) {
+        return refuse(1, 0, 0);
+    }
+    if !right {
+        return refuse(2, 0, 0);
+    }
+    for (p, &mark) in grid.iter().enumerate() {
+        let allowed = if is_processor_at(n, m, p / 32, p % 32) { mark <= 1 } else { mark == 2 };
+        if !allowed {
+            return refuse(3, p, 0);
+        }
+    }
+    Ok(())
+}
+
+// Paths.
+
+fn length_of(n: usize, m: usize, p: usize, d: u8) -> usize {
+    let (x, y) = (p / 32, p % 32);
+    match d {
+        1 => n + 2 - x,
+        2 => x + 1,
+        3 => m + 2 - y,
+        _ => y + 1,
+    }
+}
+
+fn step_ahead(p: usize, d: u8, k: usize) -> usize {
+    match d {
+        1 => p + 32 * k,
+        2 => p - 32 * k,
+        3 => p + k,
+        _ => p - k,
+    }
+}
+
+fn is_open(n: usize, m: usize, grid: &[u8], p: usize, d: u8) -> bool {
+    (1..length_of(n, m, p, d)).all(|k| grid[step_ahead(p, d, k)] != 1)
+}
+
+fn choose(d: u8, south: usize, north: usize, east: usize, west: usize, other: usize) -> usize {
+    match d {
+        1 => south,
+        2 => north,
+        3 => east,
+        4 => west,
+        _ => other,
+    }
+}
+
+fn do_meet(n: usize, m: usize, p: usize, d: u8, q: usize, e: u8) -> bool {
+    let (x, y, v, w) = (p / 32, p % 32, q / 32, q % 32);
+    choose(d, n + 1, x, x, x, x) >= choose(e, v, 0, v, v, v)
+        && choose(e, w, w, m + 1, w, w) >= choose(d, y, y, y, 0, y)
+        && choose(d, y, y, m + 1, y, y) >= choose(e, w, w, w, 0, w)
+        && choose(d, x, 0, x, x, x) <= choose(e, n + 1, v, v, v, v)
+}
+
+fn do_face(p: usize, d: u8, q: usize, e: u8) -> bool {
+    let (x, y, v, w) = (p / 32, p % 32, q / 32, q % 32);
+    match (d, e) {
+        (1, 2) => y.abs_diff(w) == 1 && x < v,
+        (3, 4) => x.abs_diff(v) == 1 && y < w,
+        _ => false,
+    }
+}
+
+fn is_near_miss(p: usize, d: u8, q: usize, e: u8) -> bool {
+    do_face(p, d, q, e) || do_face(q, e, p, d)
+}
+
+// The plan check.
+
+fn list_faults(n: usize, m: usize, grid: &[u8], out: &mut [u16; LONG]) -> usize {
+    let mut count = 0;
+    for (p, &mark) in grid.iter().enumerate() {
+        if is_inner(n, m, p) && mark == 1 {
+            out[count] = p as u16;
+            count += 1;
+        }
+    }
+    count
+}
+
+fn check_directions(n: usize, m: usize, grid: &[u8], directions: &[u8]) -> Tested {
+    for (p, (&mark, &d)) in grid.iter().zip(directions).enumerate() {
+        let fault = is_inner(n, m, p) && mark == 1;
+        if d > 4 || (fault && d == 0) || (!fault && d != 0) {
+            return refuse(4, p, 0);
+        }
+    }
+    Ok(())
+}
+
+fn check_paths(n: usize, m: usize, grid: &[u8], starts: &[u16], ds: &[u8]) -> Tested {
+    for (&p, &d) in starts.iter().zip(ds) {
+        if !is_open(n, m, grid, p as usize, d) {
+            return refuse(5, p as usize, 0);
+        }
+    }
+    for i in 0..starts.len() {
+        for j in i + 1..starts.len() {
+            let (p, d, q, e) = (starts[i] as usize, ds[i], starts[j] as usize, ds[j]);
+            if do_meet(n, m, p, d, q, e) {
+                return refuse(6, p, q);
+            }
+            if is_near_miss(p, d, q, e) {
+                return refuse(7, p, q);
+            }
+        }
+    }
+    Ok(())
+}
+
+fn check_tests(n: usize, m: usize, right: bool, grid: &[u8], directions: &[u8]) -> Tested {
+    check_map(n, m, right, grid)?;
+    check_directions(n, m, grid, directions)?;
+    let mut starts = [0u16; LONG];
+    let mut ds = [0u8; LONG];
+    let count = list_faults(n, m, grid, &mut starts);
+    for k in 0..count {
+        ds[k] = directions[starts[k] as usize];
+    }
+    check_paths(n, m, grid, &starts[..count], &ds[..count])
+}
+
+// The planner.
+
+#[derive(Clone, Copy, Debug, PartialEq)]
+pub enum Outcome {
+    Repaired(u32),
+    Beyond(u32),
+    Spent(u32),
+}
+
+fn is_kept(n: usize, m: usize, grid: &[u8], starts: &[u16], chosen: &[u8], k: usize, d: u8) -> bool {
+    let p = starts[k] as usize;
+    is_open(n, m, grid, p, d)
+        && (0..k).rev().all(|j| {
+            let (q, e) = (starts[j] as usize, chosen[j]);
+            !do_meet(n, m, q, e, p, d) && !is_near_miss(q, e, p, d)
+        })
+}
+
+fn search(n: usize, m: usize, grid: &[u8], starts: &[u16], chosen: &mut [u8], limit: u32) -> Outcome {
+    let (mut k, mut d, mut spent) = (0, 1u8, 0u32);
+    while k < starts.len() {
+        if d > 4 {
+            if k == 0 {
+                return Outcome::Beyond(spent);
+            }
+            k -= 1;
+            d = chosen[k] + 1;
+            continue;
+        }
+        if spent == limit {
+            return Outcome::Spent(limit);
+        }
+        spent += 1;
+        if is_kept(n, m, grid, starts, chosen, k, d) {
+            chosen[k] = d;
+            k += 1;
+            d = 1;
+        } else {
+            d += 1;
+        }
+    }
+    Outcome::Repaired(spent)
+}
+
+pub fn plan_repair(n: usize, m: usize, grid: &[u8], directions: &mut [u8], limit: u32) -> Result<Outcome, Refusal> {
+    check_map(n, m, grid.len() == LONG && directions.len() == LONG, grid)?;
+    let mut starts = [0u16; LONG];
+    let mut chosen = [0u8; LONG];
+    let count = list_faults(n, m, grid, &mut starts);
+    let found = search(n, m, grid, &starts[..count], &mut chosen, limit);
+    directions.fill(0);
+    if let Outcome::Repaired(_) = found {
+        for k in 0..count {
+            directions[starts[k] as usize] = chosen[k];
+        }
+    }
+    Ok(found)
+}
+
+// Placement and routing.
+
+fn trace_paths(n: usize, m: usize, grid: &[u8], directions: &[u8]) -> [u8; LONG] {
+    let mut traced = [0u8; LONG];
+    let mut starts = [0u16; LONG];
+    let count = list_faults(n, m, grid, &mut starts);
+    for &p in starts[..count].iter().rev() {
+        let d = directions[p as usize];
+        for k in 0..length_of(n, m, p as usize, d) {
+            traced[step_ahead(p as usize, d, k)] = d;
+        }
+    }
+    traced
+}
+
+fn place(n: usize, m: usize, grid: &[u8], directions: &[u8], places: &mut [u16]) {
+    let traced = trace_paths(n, m, grid, directions);
+    for (p, place) in places.iter_mut().enumerate() {
+        *place = if is_inner(n, m, p) {
+            let q = match traced[p] {
+                1 => p + 32,
+                2 => p - 32,
+                3 => p + 1,
+                4 => p - 1,
+                _ => p,
+            };
+            q as u16
+        } else {
+            0
+        };
+    }
+}
+
+pub fn place_cells(n: usize, m: usize, grid: &[u8], directions: &[u8], places: &mut [u16]) -> Tested {
+    let right = grid.len() == LONG && directions.len() == LONG && places.len() == LONG;
+    check_tests(n, m, right, grid, directions)?;
+    place(n, m, grid, directions, places);
+    Ok(())
+}
+
+fn vertical_state(d: u8, fault: bool) -> u8 {
+    match d {
+        1 => 1 + fault as u8,
+        2 => 4 - fault as u8,
+        _ => 0,
+    }
+}
+
+fn state_at(grid: &[u8], traced: &[u8; LONG], down: bool, p: usize) -> u8 {
+    let d = traced[p];
+    let turned = match d {
+        1 => 3,
+        2 => 4,
+        3 => 1,
+        4 => 2,
+        _ => d,
+    };
+    vertical_state(if down { turned } else { d }, grid[p] == 1)
+}
+
+fn switch_letter(west: u8, east: u8) -> u8 {
+    match west * 5 + east {
+        13 | 17 => b'a',
+        1..=2 | 11 | 15 | 20 | 23 => b'c',
+        3..=5 | 7 | 10 | 19 => b'd',
+        _ => b'b',
+    }
+}
+
+fn is_switch(n: usize, m: usize, down: bool, x: usize, y: usize) -> bool {
+    let (v, w) = if down { (x + 1, y) } else { (x, y + 1) };
+    is_processor_at(n, m, x, y) && is_processor_at(n, m, v, w)
+}
+
+fn fill_letters(n: usize, m: usize, grid: &[u8], traced: &[u8; LONG], down: bool, out: &mut [u8]) {
+    for (p, letter) in out.iter_mut().enumerate() {
+        *letter = if is_switch(n, m, down, p / 32, p % 32) {
+            let q = if down { p + 32 } else { p + 1 };
+            switch_letter(state_at(grid, traced, down, p), state_at(grid, traced, down, q))
+        } else {
+            0
+        };
+    }
+}
+
+pub fn route_switches(n: usize, m: usize, grid: &[u8], directions: &[u8], across: &mut [u8], down: &mut [u8]) -> Tested {
+    let right = grid.len() == LONG && directions.len() == LONG && across.len() == LONG && down.len() == LONG;
+    check_tests(n, m, right, grid, directions)?;
+    let traced = trace_paths(n, m, grid, directions);
+    fill_letters(n, m, grid, &traced, false, across);
+    fill_letters(n, m, grid, &traced, true, down);
+    Ok(())
+}
+
+// The follower. Sides are 0 W, 1 E, 2 N, 3 S; kinds 0 processor, 1 across switch, 2 down switch.
+
+#[derive(Clone, Copy)]
+struct Port {
+    kind: u8,
+    row: usize,
+    column: usize,
+    side: u8,
+}
+
+#[derive(Clone, Copy, Debug, PartialEq)]
+pub struct Landing {
+    pub position: usize,
+    pub port: u8,
+    pub switches: u8,
+}
+
+#[derive(Clone, Copy)]
+pub struct Wafer<'a> {
+    pub n: usize,
+    pub m: usize,
+    pub grid: &'a [u8],
+    pub directions: &'a [u8],
+    pub across: &'a [u8],
+    pub down: &'a [u8],
+}
+
+fn stretch_from(n: usize, m: usize, from: Port) -> Option<Port> {
+    let Port { kind, row, column, side } = from;
+    let i = if side < 2 { column } else { row };
+    let own = kind == 1 + side / 2;
+    let next = if side % 2 == 0 {
+        if own { i } else { i.checked_sub(1)? }
+    } else if kind == 0 {
+        i
+    } else {
+        i + 1
+    };
+    let other = if kind == 0 {
+        1 + side / 2
+    } else if own {
+        0
+    } else {
+        kind
+    };
+    let (row, column) = if side < 2 { (row, next) } else { (next, column) };
+    let stands = match other {
+        0 => is_processor_at(n, m, row, column),
+        1 => is_switch(n, m, false, row, column),
+        _ => is_switch(n, m, true, row, column),
+    };
+    stands.then_some(Port { kind: other, row, column, side: side ^ 1 })
+}
+
+enum Inside {
+    Ends,
+    On(u8),
+    Stops,
+}
+
+fn straight(axis: u8, side: u8) -> Inside {
+    if side / 2 == axis { Inside::On(side ^ 1) } else { Inside::Stops }
+}
+
+fn inside_at(w: &Wafer, port: Port) -> Inside {
+    let p = 32 * port.row + port.column;
+    let side = port.side;
+    if port.kind == 0 {
+        if !(is_inner(w.n, w.m, p) && w.grid[p] == 1) {
+            return Inside::Ends;
+        }
+        return match w.directions[p] {
+            1 | 2 => straight(1, side),
+            3 | 4 => straight(0, side),
+            _ => Inside::Stops,
+        };
+    }
+    let letter = if port.kind == 1 { w.across[p] } else { w.down[p] };
+    match letter {
+        b'a' => straight(2 - port.kind, side),
+        b'b' => straight(port.kind - 1, side),
+        b'c' => Inside::On(3 - side),
+        b'd' => Inside::On((side + 2) % 4),
+        _ => Inside::Stops,
+    }
+}
+
+fn follow(w: &Wafer, from: usize, side: u8) -> Result<Landing, Refusal> {
+    let mut at = Port { kind: 0, row: from / 32, column: from % 32, side: 1 + 2 * side };
+    let (mut last, mut passed) = (from, 0u8);
+    loop {
+        let Some(port) = stretch_from(w.n, w.m, at) else {
+            return refuse(17, last, 0);
+        };
+        let place = 32 * port.row + port.column;
+        let fourth = port.kind != 0 && passed == 3;
+        match inside_at(w, port) {
+            Inside::Ends if w.grid[place] == 1 => return refuse(17, last, 0),
+            Inside::Ends => {
+                return Ok(Landing { position: place, port: port.side, switches: passed });
+            }
+            Inside::On(_) | Inside::Stops if fourth => return refuse(18, place, 0),
+            Inside::Stops if port.kind == 0 => return refuse(17, last, 0),
+            Inside::Stops => return refuse(17, place, 0),
+            Inside::On(side) => {
+                if port.kind != 0 {
+                    last = place;
+                    passed += 1;
+                }
+                at = Port { side, ..port };
+            }
+        }
+    }
+}
+
+fn is_switch_byte(exists: bool, byte: u8) -> bool {
+    if exists { (b'a'..=b'd').contains(&byte) } else { byte == 0 }
+}
+
+fn check_switches(w: &Wafer) -> Tested {
+    for (p, (&a, &d)) in w.across.iter().zip(w.down).enumerate() {
+        let (x, y) = (p / 32, p % 32);
+        if !(is_switch_byte(is_switch(w.n, w.m, false, x, y), a) && is_switch_byte(is_switch(w.n, w.m, true, x, y), d)) {
+            return refuse(16, p, 0);
+        }
+    }
+    Ok(())
+}
+
+pub fn follow_link(w: &Wafer, cell: usize, side: usize) -> Result<Landing, Refusal> {
+    let right = w.grid.len() == LONG && w.directions.len() == LONG && w.across.len() == LONG && w.down.len() == LONG;
+    check_tests(w.n, w.m, right, w.grid, w.directions)?;
+    if !(is_inner(w.n, w.m, cell) && side < 2) {
+        return refuse(15, 0, 0);
+    }
+    check_switches(w)?;
+    let mut places = [0u16; LONG];
+    place(w.n, w.m, w.grid, w.directions, &mut places);
+    follow(w, places[cell] as usize, side as u8)
+}
+
+// The map reader.
+
+fn read_number(s: &[u8], at: usize) -> Result<(u32, usize), Refusal> {
+    let Some(&low) = s.get(at) else {
+        return refuse(8, s.len(), 0);
+    };
+    if low < 128 {
+        return Ok((low as u32, at + 1));
+    }
+    let Some(&high) = s.get(at + 1) else {
+        return refuse(8, s.len(), 0);
+    };
+    if high >= 128 || high == 0 {
+        return refuse(9, at, 0);
+    }
+    Ok((low as u32 - 128 + 128 * high as u32, at + 2))
+}
+
+fn read_size(s: &[u8], at: usize) -> Result<(usize, usize), Refusal> {
+    let (v, next) = read_number(s, at)?;
+    if !(1..=30).contains(&v) {
+        return refuse(1, at, 0);
+    }
+    Ok((v as usize, next))
+}
+
+pub fn read_map(s: &[u8], grid: &mut [u8]) -> Result<(usize, usize, usize), Refusal> {
+    if grid.len() != LONG {
+        return refuse(2, 0, 0);
+    }
+    let (n, at) = read_size(s, 0)?;
+    let (m, at) = read_size(s, at)?;
+    let (count, mut at) = read_number(s, at)?;
+    let mut b = [0u8; LONG];
+    for (p, mark) in b.iter_mut().enumerate() {
+        *mark = if is_processor_at(n, m, p / 32, p % 32) { 0 } else { 2 };
+    }
+    for _ in 0..count {
+        let (x, second) = read_number(s, at)?;
+        let (y, next) = read_number(s, second)?;
+        let (x, y) = (x as usize, y as usize);
+        if !is_processor_at(n, m, x, y) {
+            return refuse(10, at, 0);
+        }
+        let mark = &mut b[32 * x + y];
+        if *mark == 1 {
+            return refuse(11, at, 0);
+        }
+        *mark = 1;
+        at = next;
+    }
+    if at < s.len() {
+        return refuse(12, at, 0);
+    }
+    grid.copy_from_slice(&b);
+    Ok((n, m, count as usize))
+}

@@ -1,0 +1,219 @@
+//! How fast the library is, as a ratio to the same algorithms in Rust (same.rs), both measured in one run.
+//! A ratio of 1 is equal speed; above 1 the library is faster.
+
+#[path = "../rust/chantspruce.rs"]
+#[allow(dead_code)]
+mod chantspruce;
+mod same;
+
+use std::hint::black_box;
+use std::time::Instant;
+
+use same::{LONG, Outcome, Wafer};
+
+/// Rounds of each measurement; library and Rust take turns, and the medians are compared.
+const ROUNDS: usize = 41;
+
+/// A small generator of random numbers (xorshift), with a fixed seed.
+struct Random(u64);
+
+impl Random {
+    fn below(&mut self, k: usize) -> usize {
+        self.0 ^= self.0 << 13;
+        self.0 ^= self.0 >> 7;
+        self.0 ^= self.0 << 17;
+        (self.0 >> 16) as usize % k
+    }
+}
+
+/// A healthy 30 x 30 grid: 0 at processors, 2 elsewhere.
+fn healthy() -> Vec<u8> {
+    let processor = |x: usize, y: usize| {
+        let edge = |i: usize| i == 0 || i == 31;
+        !(edge(x) && edge(y))
+    };
+    (0..LONG).map(|p| if processor(p / 32, p % 32) { 0 } else { 2 }).collect()
+}
+
+fn with_faults(random: &mut Random, inner: usize, spares: usize) -> Vec<u8> {
+    let mut grid = healthy();
+    let mut left = (inner, spares);
+    while left != (0, 0) {
+        let p = random.below(LONG);
+        let is_inner = (1..=30).contains(&(p / 32)) && (1..=30).contains(&(p % 32));
+        let quota = if is_inner { &mut left.0 } else { &mut left.1 };
+        if grid[p] == 0 && *quota > 0 {
+            grid[p] = 1;
+            *quota -= 1;
+        }
+    }
+    grid
+}
+
+/// The first random map with so many faults whose outcome, under the limit, is as wanted.
+fn find_map(inner: usize, limit: u32, wanted: fn(Outcome) -> bool) -> Vec<u8> {
+    let mut random = Random(88172645463325252 + inner as u64);
+    let mut directions = vec![0; LONG];
+    for attempt in 0.. {
+        let grid = with_faults(&mut random, inner, (attempt / 40) % 60);
+        let found = same::plan_repair(30, 30, &grid, &mut directions, limit);
+        if wanted(found.expect("a map of the right form")) {
+            return grid;
+        }
+    }
+    unreachable!()
+}
+
+fn map_file(grid: &[u8]) -> Vec<u8> {
+    let faults: Vec<usize> = (0..LONG).filter(|&p| grid[p] == 1).collect();
+    let mut bytes = vec![30, 30];
+    if faults.len() >= 128 {
+        bytes.push(128 + (faults.len() % 128) as u8);
+        bytes.push((faults.len() / 128) as u8);
+    } else {
+        bytes.push(faults.len() as u8);
+    }
+    bytes.extend(faults.iter().flat_map(|&p| [(p / 32) as u8, (p % 32) as u8]));
+    bytes
+}
+
+fn median(mut times: Vec<f64>) -> f64 {
+    times.sort_by(f64::total_cmp);
+    times[times.len() / 2]
+}
+
+fn microseconds(calls: usize, work: &mut dyn FnMut()) -> f64 {
+    let start = Instant::now();
+    for _ in 0..calls {
+        work();
+    }
+    start.elapsed().as_secs_f64() * 1e6 / calls as f64
+}
+
+/// Prints microseconds a call of both, and the ratio.
+fn compare(what: &str, calls: usize, library: &mut dyn FnMut(), rust: &mut dyn FnMut()) {
+    let (mut ours, mut theirs) = (Vec::new(), Vec::new());
+    microseconds(calls, library);
+    microseconds(calls, rust);
+    for _ in 0..ROUNDS {
+        ours.push(microseconds(calls, library));
+        theirs.push(microseconds(calls, rust));
+    }
+    let (ours, theirs) = (median(ours), median(theirs));
+    println!("{what:<46} {ours:>10.2} {theirs:>10.2} {:>8.2}", theirs / ours);
+}
+
+fn compare_trials(faults: usize) {
+    let limit = 100_000;
+    let grid = find_map(faults, limit, |o| matches!(o, Outcome::Spent(_)));
+    let (mut a, mut b) = (vec![0; LONG], vec![0; LONG]);
+    compare(
+        &format!("{limit} trials, 30 x 30, {faults} faults"),
+        1,
+        &mut || {
+            black_box(chantspruce::plan_repair(30, 30, black_box(&grid), &mut a, limit)).ok();
+        },
+        &mut || {
+            black_box(same::plan_repair(30, 30, black_box(&grid), &mut b, limit)).ok();
+        },
+    );
+}
+
+fn compare_reading() {
+    let mut grid = healthy();
+    for p in 0..LONG {
+        if (1..=30).contains(&(p / 32)) && (1..=30).contains(&(p % 32)) {
+            grid[p] = 1;
+        }
+    }
+    let file = map_file(&grid);
+    let (mut a, mut b) = (vec![0; LONG], vec![0; LONG]);
+    compare(
+        "read_map, 30 x 30, 900 faults",
+        200,
+        &mut || {
+            black_box(chantspruce::read_map(black_box(&file), &mut a)).ok();
+        },
+        &mut || {
+            black_box(same::read_map(black_box(&file), &mut b)).ok();
+        },
+    );
+}
+
+fn compare_plan(faults: usize) {
+    let grid = find_map(faults, 100_000, |o| matches!(o, Outcome::Repaired(_)));
+    let mut directions = vec![0; LONG];
+    same::plan_repair(30, 30, &grid, &mut directions, 100_000).expect("a plan");
+    let directions = directions;
+    let (mut a, mut b) = (vec![0u16; LONG], vec![0u16; LONG]);
+    compare(
+        &format!("place_cells, 30 x 30, {faults} faults"),
+        200,
+        &mut || {
+            black_box(chantspruce::place_cells(30, 30, black_box(&grid), &directions, &mut a)).ok();
+        },
+        &mut || {
+            black_box(same::place_cells(30, 30, black_box(&grid), &directions, &mut b)).ok();
+        },
+    );
+    let (mut across, mut down) = (vec![0; LONG], vec![0; LONG]);
+    let (mut across2, mut down2) = (vec![0; LONG], vec![0; LONG]);
+    compare(
+        &format!("route_switches, 30 x 30, {faults} faults"),
+        200,
+        &mut || {
+            black_box(chantspruce::route_switches(30, 30, black_box(&grid), &directions, &mut across, &mut down)).ok();
+        },
+        &mut || {
+            black_box(same::route_switches(30, 30, black_box(&grid), &directions, &mut across2, &mut down2)).ok();
+        },
+    );
+    let wafer = Wafer { n: 30, m: 30, grid: &grid, directions: &directions, across: &across, down: &down };
+    let links: Vec<(usize, usize)> = (0..2 * LONG)
+        .map(|k| (k / 2, k % 2))
+        .filter(|&(p, side)| {
+            let (x, y) = (p / 32, p % 32);
+            x >= 1 && y >= 1 && x <= 30 - side && y <= 29 + side
+        })
+        .collect();
+    compare(
+        &format!("follow_link, all {} links, {faults} faults", links.len()),
+        1,
+        &mut || {
+            for &(cell, side) in &links {
+                black_box(chantspruce::follow_link(30, 30, &grid, &directions, &across, &down, cell, side)).ok();
+            }
+        },
+        &mut || {
+            for &(cell, side) in &links {
+                black_box(same::follow_link(&wafer, cell, side)).ok();
+            }
+        },
+    );
+}
+
+/// Prints the microseconds from the bytes of an example's map file to its listing, which is all that the bench program does between reading and
+/// writing.
+fn measure_listing(name: &str) {
+    let file = std::fs::read(format!("examples/{name}.map")).expect("an example");
+    let mut out = vec![0; chantspruce::LISTING_ROOM];
+    let mut work = || {
+        black_box(chantspruce::report(black_box(&file), &mut out)).ok();
+    };
+    let calls = if name == "spent" { 1 } else { 50 };
+    let times = (0..ROUNDS).map(|_| microseconds(calls, &mut work)).collect();
+    println!("{:<46} {:>10.2}", format!("bytes to listing, examples/{name}.map"), median(times));
+}
+
+fn main() {
+    println!("{:<46} {:>10} {:>10} {:>8}", "median of 41 rounds, microseconds a call", "library", "Rust", "ratio");
+    for faults in [20, 40, 60] {
+        compare_trials(faults);
+    }
+    compare_reading();
+    compare_plan(20);
+    compare_plan(50);
+    for name in ["first", "large", "beyond", "spent"] {
+        measure_listing(name);
+    }
+}
