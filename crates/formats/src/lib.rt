@@ -38,17 +38,18 @@ pub fn read_number(s: &[u8], at: usize) -> Number
         });
     }
     let low = s[at];
+    let next = at + 1;
     if low < 128 {
-        return Number::Read(wide(low), at + 1);
+        return Number::Read(wide(low), next);
     }
-    if s.len() <= at + 1 {
+    if s.len() <= next {
         return Number::Refused(Refusal {
             number: 8,
             place: s.len(),
             second: 0,
         });
     }
-    let high = s[at + 1];
+    let high = s[next];
     if (128 <= high) | (high == 0) {
         return Number::Refused(Refusal {
             number: 9,

@@ -14,23 +14,17 @@ returns c = ap told (sym (ended _ _ (omega arith)))
 shared-slice-read-low : tie.Need-shared-slice-read-low
 shared-slice-read-low c = search needs
 
+add-next : tie.Need-add-next
+add-next c = search needs
+
 wide-requires : tie.Need-wide-requires
 wide-requires c κs = search needs
-
-add-t12 : tie.Need-add-t12
-add-t12 c = search needs
 
 returns-2 : tie.Need-returns-2
 returns-2 c = rw (c .wide .ensures .0) (ap told (sym (one _ _ (omega arith) (omega arith))))
 
-add-if3 : tie.Need-add-if3
-add-if3 c = search needs
-
 returns-3 : tie.Need-returns-3
 returns-3 c = ap told (sym (cut _ _ (omega arith) (omega arith) (omega arith)))
-
-add-high : tie.Need-add-high
-add-high c = search needs
 
 shared-slice-read-high : tie.Need-shared-slice-read-high
 shared-slice-read-high c = search needs
@@ -41,20 +35,20 @@ returns-4 c = ap told (sym (bad _ _ (omega arith) (omega arith) (c .if4 .taken))
 wide-requires-2 : tie.Need-wide-requires-2
 wide-requires-2 c κs = search needs
 
-sub-t21 : tie.Need-sub-t21
-sub-t21 c = search needs
+sub-t20 : tie.Need-sub-t20
+sub-t20 c = search needs
 
 wide-requires-3 : tie.Need-wide-requires-3
 wide-requires-3 c κs = search needs
 
-mul-t23 : tie.Need-mul-t23
-mul-t23 c = search needs
+mul-t22 : tie.Need-mul-t22
+mul-t22 c = search needs
 
-add-t24 : tie.Need-add-t24
-add-t24 c = search needs
+add-t23 : tie.Need-add-t23
+add-t23 c = search needs
 
-add-t13 : tie.Need-add-t13
-add-t13 c = search needs
+add-t6 : tie.Need-add-t6
+add-t6 c = search needs
 
 returns-5 : tie.Need-returns-5
 returns-5 c =
@@ -67,18 +61,16 @@ read-number-spec =
     (tie.spec
     returns
     shared-slice-read-low
+    add-next
     wide-requires
-    add-t12
     returns-2
-    add-if3
     returns-3
-    add-high
     shared-slice-read-high
     returns-4
     wide-requires-2
-    sub-t21
+    sub-t20
     wide-requires-3
-    mul-t23
-    add-t24
-    add-t13
+    mul-t22
+    add-t23
+    add-t6
     returns-5)
