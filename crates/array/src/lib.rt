@@ -66,6 +66,10 @@ pub fn is_processor(n: usize, m: usize, p: usize) -> bool
     requires { ⌜ (n ≤ 30) × (m ≤ 30) ⌝ }
     ensures { λ r. ⌜ r ≡ processor n m p ⌝ }
 {
+    // most positions are inner, and that is the shorter test
+    if is_inner(n, m, p) {
+        return true;
+    }
     is_processor_at(n, m, p / 32, p % 32)
 }
 

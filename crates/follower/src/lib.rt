@@ -412,6 +412,10 @@ fn are_switch_bytes(n: usize, m: usize, p: usize, a: u8, d: u8) -> bool
     requires { ⌜ (n ≤ 30) × (m ≤ 30) × (p < 1024) ⌝ }
     ensures { λ r. ⌜ r ≡ switches-allowed n m p a d ⌝ }
 {
+    // most positions are inner, and an inner one has both switches
+    if array::is_inner(n, m, p) {
+        return is_switch_byte(true, a) & is_switch_byte(true, d);
+    }
     let across = is_standing(n, m, 1, p / 32, p % 32);
     let down = is_standing(n, m, 2, p / 32, p % 32);
     is_switch_byte(across, a) & is_switch_byte(down, d)

@@ -11,7 +11,8 @@ ghost use Rattle.plans.specs.Faults.{faults, directions-at, fault, paire
 ghost use Rattle.plans.specs.Check.{wrong-direction, directions-test, open-test, opens-test, clash-test, pairs-test, paths-test, plan-tests, check-plan};
 ghost use Rattle.plans.specs.Inner.{Starts, Listed, Directed};
 
-// An inner fault with its position and the direction of its path.
+// An inner fault with its position and the direction of its path, laid out as in C, where a caller may lend a list of them.
+#[repr(C)]
 pub struct Fault {
     pub position: usize,
     pub direction: u8,
@@ -46,7 +47,11 @@ fn is_wrong(n: usize, m: usize, p: usize, mark: u8, d: u8) -> bool
     ensures { λ r. ⌜ r ≡ wrong-direction (inner-faulty n m p mark) d ⌝ }
 {
     let fault = array::is_inner(n, m, p) & (mark == 1);
-    ((4 < d) | (fault & (d == 0))) | (!fault & !(d == 0))
+    // most positions have no direction
+    if d == 0 {
+        return fault;
+    }
+    (4 < d) | !fault
 }
 
 // Test 4.
