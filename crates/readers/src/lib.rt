@@ -3,7 +3,8 @@ use array::Refusal;
 use formats::Kind;
 use formats::Number;
 ghost use mathlib.Core.Path.{_≡_};
-ghost use Prim.Native.Nat.{_≤_};
+ghost use Prim.Native.Nat.{_≤_, _<_};
+ghost use Rattle.array.specs.Place.{position};
 ghost use lib.ListN.{length};
 ghost use Rattle.formats.specs.Number.{size-at};
 ghost use Rattle.formats.specs.Records.{blank};
@@ -50,14 +51,14 @@ fn read_size(s: &[u8], at: usize) -> Number
     })
 }
 
-// What a blank buffer holds at a position.
-fn blank_mark(kind: Kind, n: usize, m: usize, p: usize) -> u8
-    requires { ⌜ (n ≤ 30) × (m ≤ 30) ⌝ }
-    ensures { λ r. ⌜ r ≡ blank-mark kind n m p ⌝ }
+// What a blank buffer holds in a row and a column.
+fn blank_mark(kind: Kind, n: usize, m: usize, x: usize, y: usize) -> u8
+    requires { ⌜ (n ≤ 30) × (m ≤ 30) × (y < 32) ⌝ }
+    ensures { λ r. ⌜ r ≡ blank-mark kind n m (position x y) ⌝ }
 {
     match kind {
         Kind::Map => {
-            if array::is_processor(n, m, p) {
+            if array::is_processor_at(n, m, x, y) {
                 return 0;
             }
             2
@@ -66,14 +67,16 @@ fn blank_mark(kind: Kind, n: usize, m: usize, p: usize) -> u8
     }
 }
 
-// The buffer that a file with no record stands for.
+// The buffer that a file with no record stands for. Row by row, so that what depends on the row only is tested once for a row.
 fn blank_buffer(kind: Kind, n: usize, m: usize) -> [u8; 1024]
     requires { ⌜ (n ≤ 30) × (m ≤ 30) ⌝ }
     ensures { λ r. ⌜ r ≡ blank kind n m ⌝ }
 {
     let mut b = [0u8; 1024];
-    for p in 0..1024 {
-        b[p] = blank_mark(kind, n, m, p);
+    for x in 0..32 {
+        for y in 0..32 {
+            b[32 * x + y] = blank_mark(kind, n, m, x, y);
+        }
     }
     b
 }
