@@ -39,7 +39,7 @@
  *
  * BUFFERS
  *
- * Each buffer other than the bytes of a file has 1,024 elements, neither more nor fewer, and is indexed by position:
+ * Each buffer other than the bytes of a file and a list of faults has 1,024 elements, neither more nor fewer, and is indexed by position:
  *
  *     grid        uint8_t    CHANTSPRUCE_HEALTHY or CHANTSPRUCE_FAULTY at a processor, CHANTSPRUCE_NO_PROCESSOR everywhere else
  *     directions  uint8_t    CHANTSPRUCE_SOUTH, _NORTH, _EAST or _WEST at each faulty processor inside the array, 0 everywhere else
@@ -86,8 +86,9 @@
  *  - A buffer that a call writes to (a parameter that is no pointer to const) overlaps no other buffer of the same call. Two buffers
  *    that are only read may be the same.
  *  - While a call runs, nothing else writes to its buffers, and nothing else reads those that it writes to.
- *  - CHANTSPRUCE_STACK bytes of stack are free. (This is measured and not proved: chantspruce_report takes 44 KiB, any other function less than
- *    8 KiB.) Nothing is allocated and nothing is kept between calls, so that calls on different buffers may run at the same time.
+ *  - CHANTSPRUCE_STACK bytes of stack are free. (This is measured and not proved: chantspruce_report takes 44 KiB, chantspruce_check_fault_list
+ *    13 KiB, any other function less than 8 KiB.) Nothing is allocated and nothing is kept between calls, so that calls on different buffers
+ *    may run at the same time.
  * Where one of these is not met the behaviour is undefined, and nothing is promised of the result.
  */
 #ifndef CHANTSPRUCE_H
@@ -102,7 +103,7 @@ extern "C" {
 
 /* SIZES */
 
-#define CHANTSPRUCE_BUFFER 1024        /* elements of every buffer other than the bytes of a file */
+#define CHANTSPRUCE_BUFFER 1024        /* elements of every buffer that is indexed by position */
 #define CHANTSPRUCE_MAX_SIZE 30        /* the largest N, and the largest M */
 #define CHANTSPRUCE_MAP_ROOM 2044      /* bytes of the longest map file */
 #define CHANTSPRUCE_PLAN_ROOM 2704     /* bytes of the longest plan file */
@@ -172,12 +173,13 @@ enum {
     CHANTSPRUCE_ACCEPTED = 0,
     /* N or M is not 1 to 30. In a file: place is the offset of that number. */
     CHANTSPRUCE_WRONG_SIZE = 1,
-    /* A buffer other than the bytes of a file is not 1,024 elements long. */
+    /* A buffer that is indexed by position is not 1,024 elements long. */
     CHANTSPRUCE_WRONG_LENGTH = 2,
     /* The grid has a mark that cannot stand there: neither 0 nor 1 at a processor, or not 2 elsewhere. Place: the lowest such position. */
     CHANTSPRUCE_WRONG_MARK = 3,
     /* A direction is above 4, or is 0 at a fault inside the array, or is not 0 elsewhere. Place: the lowest such position. In
-       chantspruce_write_plan, which takes no grid: above 4, or not 0 at a position that is not inside. */
+       chantspruce_write_plan, which takes no grid: above 4, or not 0 at a position that is not inside. In chantspruce_check_fault_list: the
+       list is not the faults inside the array in row order, each with a direction of 1 to 4; its comment has the place. */
     CHANTSPRUCE_WRONG_DIRECTION = 4,
     /* A path runs over another fault or ends on a faulty spare. Place: where the path starts, the lowest of these. */
     CHANTSPRUCE_PATH_CLOSED = 5,
@@ -211,9 +213,16 @@ enum {
     CHANTSPRUCE_FOURTH_SWITCH = 18
 };
 
+/* A FAULT OF A LIST */
+
+typedef struct chantspruce_fault {
+    size_t position;
+    uint8_t direction; /* CHANTSPRUCE_SOUTH, _NORTH, _EAST or _WEST: where its path goes */
+} chantspruce_fault;
+
 /* RESULTS */
 
-/* Of the plan check, the placement and the routing. */
+/* Of the plan checks, the placement and the routing. */
 typedef struct chantspruce_verdict {
     uint32_t number;
     size_t place;
@@ -326,6 +335,14 @@ chantspruce_verdict chantspruce_check_plan(size_t rows, size_t columns,
                                            const uint8_t *grid, size_t grid_length,
                                            const uint8_t *directions, size_t directions_length);
 
+/* The same for a plan that is held as a list: whether it is the faults inside the array in row order, each with the direction of its path in a
+ * plan. `count` is the number of elements and may be any.
+ * Refuses 1, 2 (of the grid), 3, 4, 5, then 6 and 7 pair by pair, in this order. For 4 the list and the faults inside the array are compared
+ * from the first on. Where they part, the place is the lower of the two positions, or, where one of them has ended, the position of the other. */
+chantspruce_verdict chantspruce_check_fault_list(size_t rows, size_t columns,
+                                                 const uint8_t *grid, size_t grid_length,
+                                                 const chantspruce_fault *faults, size_t count);
+
 /* FILES */
 
 /* Reads the number at the offset `at` of a file.
@@ -370,8 +387,9 @@ chantspruce_length chantspruce_write_plan(size_t rows, size_t columns,
 chantspruce_length chantspruce_report(const uint8_t *file, size_t file_length,
                                       uint8_t *out, size_t out_length);
 
-/* The library is built for machines whose size_t has 64 bits. */
+/* The library is built for machines whose size_t has 64 bits and is aligned to 8 bytes. */
 typedef char chantspruce_size_t_has_64_bits[sizeof(size_t) == 8 ? 1 : -1];
+typedef char chantspruce_fault_has_16_bytes[sizeof(chantspruce_fault) == 16 ? 1 : -1];
 
 #ifdef __cplusplus
 }

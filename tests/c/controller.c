@@ -133,7 +133,7 @@ static int reaches(const wafer *w, size_t cell, size_t side, size_t neighbour, u
         return 0;
     }
     if (link.position != w->places[neighbour] || link.port != port || 3 < link.switches) {
-        printf("the link of cell %zu on side %zu goes astray: it enters %zu by port %u over %u switches\n", cell, side, link.position,
+        printf("the link of cell %zu on side %zu ends elsewhere: it enters %zu by port %u over %u switches\n", cell, side, link.position,
                (unsigned)link.port, (unsigned)link.switches);
         return 0;
     }
@@ -158,11 +158,35 @@ static size_t count_links(const wafer *w)
 
 /* THE REPAIR */
 
+/* Lists the faults inside the array with the directions of their paths, and gives their number. */
+static size_t list_faults(const wafer *w, chantspruce_fault *faults)
+{
+    size_t count = 0;
+    for (size_t p = 0; p < B; p++) {
+        if (w->directions[p] != CHANTSPRUCE_NO_PATH) {
+            faults[count].position = p;
+            faults[count].direction = w->directions[p];
+            count++;
+        }
+    }
+    return count;
+}
+
+/* Checks a plan twice, in the buffer and as a list. */
+static chantspruce_verdict check(const wafer *w)
+{
+    static chantspruce_fault faults[B];
+    chantspruce_verdict checked = chantspruce_check_plan(w->rows, w->columns, w->grid, B, w->directions, B);
+    if (checked.number != CHANTSPRUCE_ACCEPTED)
+        return checked;
+    return chantspruce_check_fault_list(w->rows, w->columns, w->grid, B, faults, list_faults(w, faults));
+}
+
 /* Checks a plan, places the cells, sets the switches and follows the links. */
 static int complete(wafer *w)
 {
     size_t links = w->rows * (w->columns - 1) + w->columns * (w->rows - 1);
-    chantspruce_verdict checked = chantspruce_check_plan(w->rows, w->columns, w->grid, B, w->directions, B);
+    chantspruce_verdict checked = check(w);
     if (checked.number != CHANTSPRUCE_ACCEPTED)
         return broken("the plan", checked.number, checked.place);
     chantspruce_verdict placed = chantspruce_place_cells(w->rows, w->columns, w->grid, B, w->directions, B, w->places, B);

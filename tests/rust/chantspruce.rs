@@ -4,8 +4,8 @@
 //! `rustc -O --edition 2024 --crate-type rlib chantspruce.rs -L native=target/staticlib` makes a crate that holds it. The file needs only `core`
 //! and can be a module of another crate as well.
 //!
-//! Every buffer except file bytes has [`BUFFER`] elements, indexed by position: 32 times the row, plus the column. An accepted call returns `Ok`
-//! and fills the buffers lent to it. A refused one returns a [`Refusal`] and leaves them as they were. No function panics.
+//! Every buffer except file bytes, listings and lists of faults has [`BUFFER`] elements, indexed by position: 32 times the row, plus the column.
+//! An accepted call returns `Ok` and fills the buffers lent to it. A refused one returns a [`Refusal`] and leaves them as they were. No function panics.
 //!
 //! ```
 //! use chantspruce::{BUFFER, Outcome, Refusal, direction, plan_repair, read_map};
@@ -233,9 +233,25 @@ pub struct Head {
     pub count: usize,
 }
 
+/// An inner fault and the direction of its path.
+#[repr(C)]
+#[derive(Clone, Copy, Debug, PartialEq, Eq)]
+pub struct Fault {
+    /// The position of the fault.
+    pub position: usize,
+    /// One of [`direction`].
+    pub direction: u8,
+}
+
 /// Whether `directions` holds a plan for the map of `n` rows, `m` columns and `grid`; refused with the first test that fails (1 to 7).
 pub fn check_plan(n: usize, m: usize, grid: &[u8], directions: &[u8]) -> Result<(), Refusal> {
     flat::check_plan(n, m, grid, directions).answer()
+}
+
+/// Whether `faults` are the inner faults of the map in row order, each with its direction in a plan; refused with the first test that fails (1
+/// to 7). The list may have any length.
+pub fn check_fault_list(n: usize, m: usize, grid: &[u8], faults: &[Fault]) -> Result<(), Refusal> {
+    flat::check_fault_list(n, m, grid, faults).answer()
 }
 
 /// Looks for a plan with at most `limit` trials, and fills `directions`: with the plan after `Repaired`, with 0 otherwise. Refusals: 1 to 3.
@@ -319,9 +335,9 @@ pub fn report(file: &[u8], out: &mut [u8]) -> Result<usize, Refusal> {
 /// accepted call and else the number of the refusal; the fields after `second` are 0 for a refused one.
 #[allow(clippy::too_many_arguments)]
 pub mod flat {
-    use super::{Head, Link, Number, Outcome, Port, Reason, Refusal, Run};
+    use super::{Fault, Head, Link, Number, Outcome, Port, Reason, Refusal, Run};
 
-    /// Of the plan check, placement and routing.
+    /// Of the plan checks, placement and routing.
     #[repr(C)]
     #[derive(Clone, Copy, Debug, PartialEq, Eq)]
     pub struct Verdict {
@@ -462,6 +478,14 @@ pub mod flat {
     #[link(name = "capi", kind = "static")]
     unsafe extern "C" {
         fn chantspruce_check_plan(n: usize, m: usize, grid: Bytes, grid_len: usize, directions: Bytes, directions_len: usize) -> Verdict;
+        fn chantspruce_check_fault_list(
+            n: usize,
+            m: usize,
+            grid: Bytes,
+            grid_len: usize,
+            faults: *const Fault,
+            faults_len: usize,
+        ) -> Verdict;
         fn chantspruce_plan_repair(
             n: usize,
             m: usize,
@@ -536,6 +560,11 @@ pub mod flat {
     pub fn check_plan(n: usize, m: usize, grid: &[u8], directions: &[u8]) -> Verdict {
         let (g, d) = (grid, directions);
         unsafe { chantspruce_check_plan(n, m, g.as_ptr(), g.len(), d.as_ptr(), d.len()) }
+    }
+
+    pub fn check_fault_list(n: usize, m: usize, grid: &[u8], faults: &[Fault]) -> Verdict {
+        let (g, f) = (grid, faults);
+        unsafe { chantspruce_check_fault_list(n, m, g.as_ptr(), g.len(), f.as_ptr(), f.len()) }
     }
 
     pub fn plan_repair(n: usize, m: usize, grid: &[u8], directions: &mut [u8], limit: u32) -> Planned {

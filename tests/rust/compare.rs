@@ -8,6 +8,7 @@ mod inputs;
 mod operations;
 mod reference;
 
+use chantspruce::Fault;
 use guarded::Guarded;
 use inputs::{Case, Maker};
 use operations::{Answer, OPERATIONS, Operation};
@@ -21,6 +22,7 @@ const CALLS: usize = 1_000_000;
 pub struct Buffers {
     pub grid: Guarded<u8>,
     pub directions: Guarded<u8>,
+    pub faults: Guarded<Fault>,
     pub places: Guarded<u16>,
     pub across: Guarded<u8>,
     pub down: Guarded<u8>,
@@ -31,19 +33,21 @@ pub struct Buffers {
 impl Buffers {
     fn new() -> Buffers {
         Buffers {
-            grid: Guarded::new(),
-            directions: Guarded::new(),
-            places: Guarded::new(),
-            across: Guarded::new(),
-            down: Guarded::new(),
-            file: Guarded::new(),
-            out: Guarded::new(),
+            grid: Guarded::new(u8::from),
+            directions: Guarded::new(u8::from),
+            faults: Guarded::new(|b| Fault { position: b as usize, direction: b }),
+            places: Guarded::new(u16::from),
+            across: Guarded::new(u8::from),
+            down: Guarded::new(u8::from),
+            file: Guarded::new(u8::from),
+            out: Guarded::new(u8::from),
         }
     }
 
     fn set(&mut self, case: &Case) {
         self.grid.set(&case.grid);
         self.directions.set(&case.directions);
+        self.faults.set(&case.faults);
         self.places.set(&case.places);
         self.across.set(&case.across);
         self.down.set(&case.down);
@@ -56,6 +60,7 @@ impl Buffers {
         let held = [
             ("grid", self.grid.holds(&case.grid)),
             ("directions", self.directions.holds(&case.directions)),
+            ("faults", self.faults.holds(&case.faults)),
             ("places", self.places.holds(&case.places)),
             ("across", self.across.holds(&case.across)),
             ("down", self.down.holds(&case.down)),
@@ -83,7 +88,7 @@ fn difference(
     Some(format!("answer {answer:?}\nthe buffer {name} or a guard beside it is not as it should be\n{}", held(buffers, name, after)))
 }
 
-/// What a byte buffer holds after a call, and what it should.
+/// What a buffer holds after a call, and what it should.
 fn held(buffers: &mut Buffers, name: &str, after: &Case) -> String {
     let (buffer, wanted) = match name {
         "grid" => (&mut buffers.grid, &after.grid),
@@ -92,12 +97,13 @@ fn held(buffers: &mut Buffers, name: &str, after: &Case) -> String {
         "down" => (&mut buffers.down, &after.down),
         "file" => (&mut buffers.file, &after.file),
         "out" => (&mut buffers.out, &after.out),
+        "faults" => return format!("it holds {:?}\nshould be {:?}", buffers.faults.lend(), after.faults),
         _ => return format!("places {:?}\nshould be {:?}", buffers.places.lend(), after.places),
     };
     format!("it holds {:?}\nshould be {wanted:?}", buffer.lend())
 }
 
-/// How often each answer came, and how often an accepted call had the largest array.
+/// How often each answer came, and how often an accepted call, of a map that is not refused, had the largest array.
 #[derive(Default)]
 struct Tally {
     answers: BTreeMap<u32, usize>,
@@ -116,8 +122,10 @@ fn compare(operation: &Operation) -> Result<Tally, String> {
         if let Some(found) = difference(&mut buffers, &before, &after, expected, call) {
             return Err(format!("call {index}: {found}\nwith {before:?}"));
         }
-        *tally.answers.entry((operation.kind)(&expected, &after)).or_default() += 1;
-        tally.largest += usize::from(expected.number == 0 && before.n == 30 && before.m == 30);
+        let kind = (operation.kind)(&expected, &after);
+        *tally.answers.entry(kind).or_default() += 1;
+        let accepted = expected.number == 0 && kind != operations::REFUSED_MAP;
+        tally.largest += usize::from(accepted && before.n == 30 && before.m == 30);
     }
     Ok(tally)
 }

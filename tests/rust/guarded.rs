@@ -12,9 +12,10 @@ pub struct Guarded<T> {
     store: Vec<T>,
 }
 
-impl<T: Copy + PartialEq + From<u8>> Guarded<T> {
-    pub fn new() -> Self {
-        let guards = (0..2 * GUARD as u8).map(|i| T::from(i.wrapping_mul(73) ^ 0xC3)).collect();
+impl<T: Copy + PartialEq> Guarded<T> {
+    /// `guard` makes an element of a byte, others of other bytes.
+    pub fn new(guard: fn(u8) -> T) -> Self {
+        let guards = (0..2 * GUARD as u8).map(|i| guard(i.wrapping_mul(73) ^ 0xC3)).collect();
         Guarded { guards, store: Vec::new() }
     }
 

@@ -1,5 +1,7 @@
 //! The inputs of the comparison: maps, plans, switches and files, sound and damaged, from a fixed seed for each operation.
 
+use chantspruce::Fault;
+
 use crate::reference::{self, Array, Cell, DIRECTIONS, LENGTH, Outcome, Path, position};
 
 /// The arguments of a call. An operation uses some of them; buffers that it does not use are empty.
@@ -13,6 +15,7 @@ pub struct Case {
     pub at: usize,
     pub grid: Vec<u8>,
     pub directions: Vec<u8>,
+    pub faults: Vec<Fault>,
     pub places: Vec<u16>,
     pub across: Vec<u8>,
     pub down: Vec<u8>,
@@ -43,6 +46,19 @@ const PLAN_DAMAGES: [Damage; 8] = [
     Maker::bad_direction,
     Maker::lost_direction,
     Maker::turn_direction,
+];
+
+const LIST_DAMAGES: [Damage; 10] = [
+    Maker::bad_size,
+    Maker::other_size,
+    Maker::bad_length,
+    Maker::bad_mark,
+    Maker::turn_health,
+    Maker::lost_fault,
+    Maker::more_faults,
+    Maker::swapped_faults,
+    Maker::moved_fault,
+    Maker::turned_fault,
 ];
 
 const LINK_DAMAGES: [Damage; 4] = [Maker::bad_switch, Maker::turn_letter, Maker::bad_cell, Maker::bad_side];
@@ -328,6 +344,57 @@ impl Maker {
         let mut case = self.with_directions(array);
         self.spoil(&mut case, 3, &PLAN_DAMAGES);
         case
+    }
+
+    /// The faults of a direction buffer as a list, in row order, or damaged.
+    pub fn for_list(&mut self) -> Case {
+        let array = self.array(512, 4);
+        let mut case = self.with_directions(array);
+        let starts = inner_faults(&case).into_iter();
+        case.faults = starts.map(|position| Fault { position, direction: case.directions[position] }).collect();
+        case.directions = Vec::new();
+        self.spoil(&mut case, 3, &LIST_DAMAGES);
+        case
+    }
+
+    /// An entry of the list for which there is room, if any.
+    fn entry(&mut self, case: &Case) -> Option<usize> {
+        (!case.faults.is_empty()).then(|| self.below(case.faults.len()))
+    }
+
+    fn lost_fault(&mut self, case: &mut Case) {
+        if let Some(at) = self.entry(case) {
+            case.faults.remove(at);
+        }
+    }
+
+    /// Adds an entry: one that is there already, or any other, a few times or very often.
+    fn more_faults(&mut self, case: &mut Case) {
+        let at = self.below(case.faults.len() + 1);
+        let any = Fault { position: self.place(case), direction: self.below(6) as u8 };
+        let fault = case.faults.get(at).copied().filter(|_| self.one_in(2)).unwrap_or(any);
+        let times = self.pick(&[1, 1, 1, 2, LENGTH, LENGTH + 1]);
+        case.faults.splice(at..at, vec![fault; times]);
+    }
+
+    fn swapped_faults(&mut self, case: &mut Case) {
+        if let (Some(a), Some(b)) = (self.entry(case), self.entry(case)) {
+            case.faults.swap(a, b);
+        }
+    }
+
+    fn moved_fault(&mut self, case: &mut Case) {
+        if let Some(at) = self.entry(case) {
+            let old = case.faults[at].position;
+            let wide = [old ^ LENGTH, old ^ (1 << 16), old ^ (1 << 32), old ^ (1 << 63), usize::MAX];
+            case.faults[at].position = if self.one_in(2) { self.pick(&wide) } else { self.place(case) };
+        }
+    }
+
+    fn turned_fault(&mut self, case: &mut Case) {
+        if let Some(at) = self.entry(case) {
+            case.faults[at].direction = self.pick(&[0, 1, 2, 3, 4, 5, 255]);
+        }
     }
 
     pub fn for_placing(&mut self) -> Case {

@@ -34,7 +34,7 @@ pub struct Operation {
 const REPAIRED: u32 = 101;
 const BEYOND: u32 = 102;
 const SPENT: u32 = 103;
-const REFUSED_MAP: u32 = 104;
+pub const REFUSED_MAP: u32 = 104;
 
 pub fn kind_name(kind: u32) -> String {
     match kind {
@@ -170,8 +170,9 @@ fn written(a: flat::Written) -> Answer {
     Answer { number: a.number, place: a.place, second: a.second, values: [a.length, 0, 0] }
 }
 
-pub const OPERATIONS: [Operation; 12] = [
+pub const OPERATIONS: [Operation; 13] = [
     CHECK_PLAN,
+    CHECK_FAULT_LIST,
     PLAN_REPAIR,
     PLACE_CELLS,
     ROUTE_SWITCHES,
@@ -192,6 +193,21 @@ const CHECK_PLAN: Operation = Operation {
     reference: |c| told(reference::check_plan(c.n, c.m, &c.grid, &c.directions), |()| NO_VALUES),
     flat: |c, b| verdict(flat::check_plan(c.n, c.m, b.grid.lend(), b.directions.lend())),
     safe: |c, b| said(chantspruce::check_plan(c.n, c.m, b.grid.lend(), b.directions.lend()), |()| NO_VALUES),
+    kind: by_number,
+    kinds: &[0, 1, 2, 3, 4, 5, 6, 7],
+    sized: true,
+};
+
+const CHECK_FAULT_LIST: Operation = Operation {
+    name: "check_fault_list",
+    seed: 13,
+    make: Maker::for_list,
+    reference: |c| {
+        let list: Vec<(usize, u8)> = c.faults.iter().map(|f| (f.position, f.direction)).collect();
+        told(reference::check_fault_list(c.n, c.m, &c.grid, &list), |()| NO_VALUES)
+    },
+    flat: |c, b| verdict(flat::check_fault_list(c.n, c.m, b.grid.lend(), b.faults.lend())),
+    safe: |c, b| said(chantspruce::check_fault_list(c.n, c.m, b.grid.lend(), b.faults.lend()), |()| NO_VALUES),
     kind: by_number,
     kinds: &[0, 1, 2, 3, 4, 5, 6, 7],
     sized: true,

@@ -231,15 +231,34 @@ fn test_plan(n: usize, m: usize, grid: &[u8], directions: &[u8], others: &[usize
     let array = test_map(n, m, grid, &[&[directions.len()], others].concat())?;
     test_directions(array, grid, directions)?;
     let paths = paths(array, grid, directions);
+    test_paths(grid, &paths)?;
+    Ok(Planned { array, paths })
+}
+
+/// The tests 5 to 7.
+fn test_paths(grid: &[u8], paths: &[Path]) -> Result<(), Refusal> {
     if let Some(closed) = paths.iter().find(|p| !p.is_open(grid)) {
         return refuse(5, position(closed.start));
     }
-    test_pairs(&paths)?;
-    Ok(Planned { array, paths })
+    test_pairs(paths)
 }
 
 pub fn check_plan(n: usize, m: usize, grid: &[u8], directions: &[u8]) -> Result<(), Refusal> {
     test_plan(n, m, grid, directions, &[]).map(|_| ())
+}
+
+/// The plan check of a list of faults, each with its position and direction: its 4 is where the list parts from the inner faults.
+pub fn check_fault_list(n: usize, m: usize, grid: &[u8], list: &[(usize, u8)]) -> Result<(), Refusal> {
+    let array = test_map(n, m, grid, &[])?;
+    let faults = inner_faults(array, grid);
+    let agree = |(fault, &(place, direction)): (&Cell, &(usize, u8))| position(*fault) == place && (1..=4).contains(&direction);
+    let same = faults.iter().zip(list).take_while(|&pair| agree(pair)).count();
+    let places = [faults.get(same).map(|&c| position(c)), list.get(same).map(|entry| entry.0)];
+    if let Some(lowest) = places.into_iter().flatten().min() {
+        return refuse(4, lowest);
+    }
+    let path = |(&c, entry): (&Cell, &(usize, u8))| Path::new(array, c, DIRECTIONS[entry.1 as usize - 1]);
+    test_paths(grid, &faults.iter().zip(list).map(path).collect::<Vec<Path>>())
 }
 
 // The planner.

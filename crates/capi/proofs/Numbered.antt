@@ -11,13 +11,14 @@ use lib.ListN.{length, getD, set}
 use Rattle.array.specs.Place.{size, row, column, position, inner, inner-at, processor-at}
 use Rattle.array.specs.Tests.{refusal, or-else, refuse-if, first-of, first-along}
 use Rattle.array.specs.Buffer.{long, all-long}
-use Rattle.array.specs.Map.{faulty, allowed, size-test, length-test, mark-test, map-tests, inner-fault}
+use Rattle.array.specs.Map.{faulty, allowed, size-test, length-test, mark-test, map-tests, well-formed, inner-fault}
 use Rattle.array.specs.declared.Refusal.{Refusal}
 use Rattle.array.specs.declared.Verdict.{Verdict}
 use Rattle.array.specs.declared.Verdict.the-variants.{Accepted}
 use Rattle.paths.specs.Path.{is-open, meet, near-miss, pair-test}
-use Rattle.plans.specs.Faults.{directed-faults}
+use Rattle.plans.specs.Faults.{faults, directed-faults}
 use Rattle.plans.specs.Check.{wrong-direction, direction-test, directions-test, open-test, opens-test, clash-test, pairs-test, paths-test, plan-tests}
+use Rattle.plans.specs.FaultList.{lower, wrong-entry, entry-test, listed-test, check-fault-list}
 use Rattle.plans.specs.declared.Fault.{Fault}
 use Rattle.track.specs.Letters.{across-exists, down-exists, switch-byte}
 use Rattle.track.specs.Ports.{Wafer}
@@ -130,6 +131,22 @@ of-plan n m right grid directions =
     both (map-tests n m right grid) (of-map n m right grid)
     (both (directions-test n m grid directions) (all-along (direction-test n m grid) (of-direction n m grid) 0 directions)
     (of-paths n m grid (directed-faults n m grid directions)))
+
+of-entry : (p : ℕ) (f : Fault) → Sound (entry-test p f)
+of-entry p f = one 4 (lower p (f .position)) 0 (omega arith) (omega arith) (wrong-entry p (f .position) (f .direction))
+
+of-listed : (ps : List ℕ) (fs : List Fault) → Sound (listed-test ps fs)
+unfolding listed-test
+of-listed [] [] = passes
+of-listed [] (f ∷ fs) = one 4 (f .position) 0 (omega arith) (omega arith) true
+of-listed (p ∷ ps) [] = one 4 p 0 (omega arith) (omega arith) true
+of-listed (p ∷ ps) (f ∷ fs) = both (entry-test p f) (of-entry p f) (of-listed ps fs)
+
+pub of-list : (n m : ℕ) (grid : List ℕ) (fs : List Fault) → Sound (check-fault-list n m grid fs)
+unfolding check-fault-list
+of-list n m grid fs =
+    both (well-formed n m grid) (of-map n m (all-long (grid ∷ [])) grid)
+    (both (listed-test (faults n m grid) fs) (of-listed (faults n m grid) fs) (of-paths n m grid fs))
 
 -- PLANNER AND FOLLOWER
 

@@ -13,6 +13,7 @@ use Rattle.array.specs.declared.Verdict.the-variants.{Accepted}
 use Rattle.trials.specs.Search.{planned, outcome}
 use Rattle.trials.specs.declared.Outcome.the-variants.{Repaired, Beyond, Spent}
 use Rattle.plans.specs.Check.{check-plan}
+use Rattle.plans.specs.FaultList.{check-fault-list}
 use Rattle.track.specs.Ports.{Wafer}
 use Rattle.track.specs.declared.Followed.{Followed}
 use Rattle.repair.specs.Operations.{plan-repair, plan-repair-test, place-cells, route-switches, follow-link}
@@ -29,7 +30,7 @@ use Rattle.writers.specs.Writing.{write-map, write-plan}
 use Rattle.listing.specs.Listing.{listing, reported}
 use Rattle.capi.specs.Flat.{flat-verdict, flat-outcome, flat-answer, run-of, flat-run, flat-link, flat-number, flat-head, flat-length}
 use Rattle.capi.specs.Tells.{by-number, verdict-tells, link-tells, number-tells, head-tells, length-tells, Numbered, Kept, Answer-kept, Nothing-lost}
-use Rattle.capi.proofs.Numbered.{sound-verdict, sound-number, sound-file, of-map, of-plan, of-answer, of-run, of-link, of-number, of-file, of-write, of-text}
+use Rattle.capi.proofs.Numbered.{sound-verdict, sound-number, sound-file, of-map, of-plan, of-list, of-answer, of-run, of-link, of-number, of-file, of-write, of-text}
 use Rattle.array.specs.Tests as tests
 use Rattle.array.specs.declared.Verdict.the-variants as verdict
 use Rattle.track.specs.Follower as links
@@ -132,6 +133,7 @@ nothing-lost =
     record {
       by-check-plan = λ n m grid directions.
           verdict-kept (check-plan n m grid directions) (sound-verdict (of-plan n m (all-long (grid ∷ directions ∷ [])) grid directions));
+      by-check-fault-list = λ n m grid faults. verdict-kept (check-fault-list n m grid faults) (sound-verdict (of-list n m grid faults));
       by-place-cells = places-kept;
       by-route-switches = switches-kept;
       by-plan-repair = λ n m grid directions limit.

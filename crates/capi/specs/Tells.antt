@@ -8,6 +8,8 @@ use mathlib.Core.List.{List, [], _∷_}
 use lib.Dec.{eqb}
 use Rattle.array.specs.Tests.{Told, accepts, refuses}
 use Rattle.plans.specs.Check.{check-plan}
+use Rattle.plans.specs.FaultList.{check-fault-list}
+use Rattle.plans.specs.declared.Fault.{Fault}
 use Rattle.track.specs.Ports.{Wafer}
 use Rattle.repair.specs.Operations.{plan-repair, place-cells, route-switches, follow-link}
 use Rattle.repair.specs.Demand3.{Given}
@@ -72,6 +74,8 @@ Answer-kept k a = Kept operations.told (λ (x : Answer). flat-answer x k) plan-t
 pub record Nothing-lost : Type 0 where
   pub by-check-plan : (n m : ℕ) (grid directions : List ℕ)
       → Kept tests.told flat-verdict verdict-tells (check-plan n m grid directions)
+  pub by-check-fault-list : (n m : ℕ) (grid : List ℕ) (faults : List Fault)
+      → Kept tests.told flat-verdict verdict-tells (check-fault-list n m grid faults)
   pub by-place-cells : (n m : ℕ) (grid directions places : List ℕ)
       → Kept tests.told flat-verdict verdict-tells (place-cells n m grid directions places)
   pub by-route-switches : (n m : ℕ) (grid directions across down : List ℕ)

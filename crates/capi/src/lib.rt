@@ -1,6 +1,7 @@
 // The operations for controllers in C and Rust (include/chantspruce.h): each makes one call and returns its answer as a flat struct.
 use array::Verdict;
 use formats::Number;
+use plans::Fault;
 use readers::FileRead;
 use repair::Answer;
 use track::Followed;
@@ -9,6 +10,7 @@ use writers::FileWritten;
 ghost use mathlib.Core.Path.{_≡_};
 ghost use Rattle.formats.specs.Number.{number-at};
 ghost use Rattle.plans.specs.Check.{check-plan};
+ghost use Rattle.plans.specs.FaultList.{check-fault-list};
 ghost use Rattle.track.specs.Ports.{wafer};
 ghost use Rattle.repair.specs.Operations.{plan-repair, directions-after, place-cells, places-after, route-switches, across-after, down-after, follow-link};
 ghost use Rattle.runs.specs.Run.{given, Ran-as};
@@ -237,6 +239,18 @@ pub extern "C" fn chantspruce_check_plan(
     ensures { λ r. ⌜ r ≡ flat-verdict (check-plan n m (now (grid .entry)) (now (directions .entry))) ⌝ }
 {
     flat_verdict(plans::check_plan(n, m, grid, directions))
+}
+
+#[no_mangle]
+pub extern "C" fn chantspruce_check_fault_list(
+    n: usize,
+    m: usize,
+    grid: &[u8],
+    faults: &[Fault],
+) -> ChantspruceVerdict
+    ensures { λ r. ⌜ r ≡ flat-verdict (check-fault-list n m (now (grid .entry)) (now (faults .entry))) ⌝ }
+{
+    flat_verdict(plans::list::check_fault_list(n, m, grid, faults))
 }
 
 #[no_mangle]

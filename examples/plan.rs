@@ -1,0 +1,26 @@
+//! Plans the repair of a map file by the Rust wrapper, tests/rust/chantspruce.rs: prints the outcome, and where each path goes.
+
+use chantspruce::{BUFFER, Outcome, direction, plan_repair, read_map};
+use std::error::Error;
+
+fn main() -> Result<(), Box<dyn Error>> {
+    let name = std::env::args().nth(1).ok_or("usage: plan FILE")?;
+    let (mut grid, mut directions) = ([0; BUFFER], [0; BUFFER]);
+    let map = read_map(&std::fs::read(name)?, &mut grid)?;
+    match plan_repair(map.rows, map.columns, &grid, &mut directions, 1_000_000)? {
+        Outcome::Repaired(trials) => println!("repaired, trials: {trials}"),
+        Outcome::Beyond(trials) => println!("beyond repair, trials: {trials}"),
+        Outcome::Spent(limit) => println!("not decided within {limit} trials"),
+    }
+    for (position, &to) in directions.iter().enumerate() {
+        let word = match to {
+            direction::SOUTH => "south",
+            direction::NORTH => "north",
+            direction::EAST => "east",
+            direction::WEST => "west",
+            _ => continue,
+        };
+        println!("row {}, column {}: {word}", position / 32, position % 32);
+    }
+    Ok(())
+}

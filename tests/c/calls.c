@@ -1,0 +1,103 @@
+/*
+ * Calls every function of the header that the controller does not call, accepted and refused, and prints all fields of each result. What is
+ * printed is right only where the declarations and structs of chantspruce.h are those of the library.
+ */
+#include <chantspruce.h>
+#include <stdio.h>
+
+enum { B = CHANTSPRUCE_BUFFER };
+
+static uint8_t grid[B], directions[B], across[B], down[B];
+static uint16_t places[B];
+static uint8_t out[CHANTSPRUCE_LISTING_ROOM];
+
+/* 2 x 2 cells with a fault at row 1, column 1, and the plan that sends its path south */
+static const uint8_t map_file[] = {2, 2, 1, 1, 1};
+static const uint8_t plan_file[] = {2, 2, 1, 1, 1, CHANTSPRUCE_SOUTH};
+static const uint8_t wrong_plan_file[] = {2, 2, 1, 1, 1, 5};
+
+static void print_first(const char *call, uint32_t number, size_t place, size_t second)
+{
+    printf("%s: number %u, place %zu, second %zu", call, (unsigned)number, place, second);
+}
+
+static void print_number(chantspruce_number a)
+{
+    print_first("read_number", a.number, a.place, a.second);
+    printf(", value %u, next %zu\n", (unsigned)a.value, a.next);
+}
+
+static void print_head(const char *call, chantspruce_head a)
+{
+    print_first(call, a.number, a.place, a.second);
+    printf(", rows %zu, columns %zu, count %zu\n", a.rows, a.columns, a.count);
+}
+
+static void print_run(chantspruce_plan a)
+{
+    print_first("repair_run", a.number, a.place, a.second);
+    printf(", outcome %u, count %u, links %zu\n", (unsigned)a.outcome, (unsigned)a.count, a.links);
+}
+
+/* Prints a result and the bytes that it tells of. */
+static void print_bytes(const char *call, chantspruce_length a)
+{
+    print_first(call, a.number, a.place, a.second);
+    printf(", length %zu:", a.length);
+    for (size_t i = 0; i < a.length; i++)
+        printf(" %u", (unsigned)out[i]);
+    puts("");
+}
+
+static void call_readers(void)
+{
+    static const uint8_t numbers[] = {7, 0xAC, 2, 0x82, 0};
+    print_number(chantspruce_read_number(numbers, sizeof numbers, 1));
+    print_number(chantspruce_read_number(numbers, sizeof numbers, 3));
+    print_number(chantspruce_read_number(numbers, sizeof numbers, SIZE_MAX));
+    print_head("read_map", chantspruce_read_map(map_file, sizeof map_file, grid, B));
+    print_head("read_plan", chantspruce_read_plan(plan_file, sizeof plan_file, directions, B));
+    print_head("read_plan", chantspruce_read_plan(wrong_plan_file, sizeof wrong_plan_file, directions, B));
+}
+
+static void call_writers(void)
+{
+    print_bytes("write_map", chantspruce_write_map(2, 2, grid, B, out, sizeof out));
+    print_bytes("write_map", chantspruce_write_map(2, 2, grid, B, out, 4));
+    print_bytes("write_plan", chantspruce_write_plan(2, 2, directions, B, out, sizeof out));
+    print_bytes("write_plan", chantspruce_write_plan(2, 3, directions, B - 1, out, sizeof out));
+}
+
+static void call_run(void)
+{
+    print_run(chantspruce_repair_run(2, 2, grid, B, 1000, directions, B, places, B, across, B, down, B));
+    printf("cell [1, 1] is at %u, the switches right of and below the fault are %c and %c\n", (unsigned)places[CHANTSPRUCE_POSITION(1, 1)],
+           across[CHANTSPRUCE_POSITION(1, 1)], down[CHANTSPRUCE_POSITION(1, 1)]);
+    print_run(chantspruce_repair_run(2, 2, grid, B, 0, directions, B, places, B, across, B, down, B));
+    print_run(chantspruce_repair_run(2, 3, grid, B, 1000, directions, B, places, B, across, B, down, B));
+}
+
+static void call_checks(void)
+{
+    static const chantspruce_fault listed[] = {{CHANTSPRUCE_POSITION(1, 1), CHANTSPRUCE_EAST}, {CHANTSPRUCE_POSITION(2, 2), CHANTSPRUCE_WEST}};
+    chantspruce_verdict one = chantspruce_check_fault_list(2, 2, grid, B, listed, 1);
+    print_first("check_fault_list", one.number, one.place, one.second);
+    puts("");
+    grid[CHANTSPRUCE_POSITION(2, 2)] = CHANTSPRUCE_FAULTY;
+    chantspruce_verdict two = chantspruce_check_fault_list(2, 2, grid, B, listed, 2);
+    print_first("check_fault_list", two.number, two.place, two.second);
+    puts("");
+}
+
+int main(void)
+{
+    call_readers();
+    call_writers();
+    call_run();
+    call_checks();
+    chantspruce_length listing = chantspruce_report(map_file, sizeof map_file, out, sizeof out);
+    print_first("report", listing.number, listing.place, listing.second);
+    printf(", length %zu\n%.*s", listing.length, (int)listing.length, (const char *)out);
+    print_bytes("report", chantspruce_report(map_file, sizeof map_file, out, 10));
+    return 0;
+}
