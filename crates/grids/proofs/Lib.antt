@@ -1,3 +1,11 @@
 pub mod Texts
 pub mod Within
 pub mod Marks
+pub mod Lines
+pub mod Rows
+pub mod Judging
+pub mod Sound
+pub mod Examples
+pub mod TextLines
+pub mod Stores
+pub mod RoundTrip

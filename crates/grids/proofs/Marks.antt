@@ -13,7 +13,7 @@ use Rattle.array.specs.declared.Verdict.the-variants.{Accepted}
 use Rattle.array.proofs.Bools.{by-bool}
 use Rattle.array.proofs.Fills.{tabulate-length, tabulate-at}
 use Rattle.array.proofs.Scans.{buffer-scan, scan-all}
-use Rattle.grids.specs.Parts.{fault-letter, mark-of, grid-of}
+use Rattle.grids.specs.Reading.{fault-letter, mark-of, grid-of}
 
 mark-allowed : (n m p b : ℕ) → allowed n m p (mark-of n m p b) ≡ true
 mark-allowed n m p b =
@@ -22,11 +22,11 @@ mark-allowed n m p b =
     (λ t. rw t)
 
 module _ (n m : ℕ) (cells : List ℕ) where
-  grid-long : length (grid-of n m cells) ≡ 1024
+  pub grid-long : length (grid-of n m cells) ≡ 1024
   unfolding grid-of
   grid-long = tabulate-length _ 1024
 
-  grid-at : (p : ℕ) → p < 1024 → getD (grid-of n m cells) p 0 ≡ mark-of n m p (getD cells p 0)
+  pub grid-at : (p : ℕ) → p < 1024 → getD (grid-of n m cells) p 0 ≡ mark-of n m p (getD cells p 0)
   unfolding grid-of
   grid-at p h = tabulate-at (λ q. mark-of n m q (getD cells q 0)) 1024 p 0 h
 

@@ -1,2 +1,5 @@
 pub mod Text
+pub mod Reading
 pub mod Parts
+pub mod Theorems
+pub mod Examples

@@ -3,14 +3,16 @@ use array::Refusal;
 use array::Verdict;
 use writers::FileWritten;
 ghost use mathlib.Core.Path.{_≡_};
-ghost use Prim.Native.Nat.{_+_, _≤_, _<_};
-ghost use lib.ListN.{length};
-ghost use lib.Seq.{sets};
+ghost use Prim.Native.Nat.{_+_, _*_, _/_, _%_, _≤_, _<_};
+ghost use lib.ListN.{length, getD, drop};
+ghost use lib.Seq.{sets, slice};
+ghost use Rattle.array.specs.Place.{position};
 ghost use Rattle.array.specs.Map.{well-formed};
 ghost use Rattle.array.specs.declared.Verdict.the-variants.{Accepted};
 ghost use Rattle.writers.specs.Writing.{told, room-test, put};
 ghost use Rattle.grids.specs.Text.{character, text-length, text-byte, text, write-text};
-ghost use Rattle.grids.specs.Parts.{Within, Few-rows, fault-letter, mark-of, grid-of, Formed-or-kept};
+ghost use Rattle.grids.specs.Parts.{Within, line-length, taken-as};
+ghost use Rattle.grids.specs.Reading.{fault-letter, mark-of, grid-of, trim, lines-of, rows-of, pass-blank, take-row, take-line, take-lines, length-test, letter-test, place-test, rows-test, read-rows, read-text};
 
 // What is wrong with a text. Lines and columns count from 1.
 pub enum Wrong {
@@ -65,7 +67,7 @@ pub enum Judged {
 // The offset of the end of the line that an offset is in.
 fn line_end(s: &[u8], start: usize) -> usize
     requires { ⌜ start ≤ length (now s) ⌝ }
-    ensures { λ r. ⌜ (start ≤ r) × (r ≤ length (now (s .entry))) ⌝ }
+    ensures { λ r. ⌜ (start ≤ r) × (r ≤ length (now (s .entry))) × (r ≡ start + line-length (drop start (now (s .entry)))) ⌝ }
 {
     let mut at = start;
     while at < s.len() {
@@ -77,15 +79,15 @@ fn line_end(s: &[u8], start: usize) -> usize
     at
 }
 
-// The end of a line without the spaces and carriage returns at its end.
+// The end of a line without the spaces, tabs and carriage returns at its end.
 fn trimmed(s: &[u8], start: usize, stop: usize) -> usize
     requires { ⌜ (start ≤ stop) × (stop ≤ length (now s)) ⌝ }
-    ensures { λ r. ⌜ (start ≤ r) × (r ≤ stop) ⌝ }
+    ensures { λ r. ⌜ (start ≤ r) × (r ≤ stop) × (slice start r (now (s .entry)) ≡ trim (slice start stop (now (s .entry)))) ⌝ }
 {
     let mut end = stop;
     while start < end {
         let b = s[end - 1];
-        if (b != b' ') & (b != b'\r') {
+        if !((b == b' ') | ((b == b'\t') | (b == b'\r'))) {
             return end;
         }
         end -= 1;
@@ -96,6 +98,7 @@ fn trimmed(s: &[u8], start: usize, stop: usize) -> usize
 // Copies the characters of a row into its place among 32 rows of 32.
 fn copy_row(s: &[u8], start: usize, end: usize, row: usize, cells: &mut [u8; 1024])
     requires { ⌜ Within (now s) start end × (row < 32) ⌝ }
+    ensures { λ _. ⌜ now (cells .exit) ≡ sets (now (cells .entry)) (position row 0) (slice start end (now (s .entry))) ⌝ }
 {
     for j in 0..end - start {
         cells[32 * row + j] = s[start + j];
@@ -104,10 +107,9 @@ fn copy_row(s: &[u8], start: usize, end: usize, row: usize, cells: &mut [u8; 102
 
 // Notes a blank line.
 fn pass_blank(seen: Seen, line: usize) -> Seen
-    requires { ⌜ seen .rows ≤ 32 ⌝ }
-    ensures { λ r. ⌜ r .rows ≤ 32 ⌝ }
+    ensures { λ r. ⌜ r ≡ pass-blank line seen ⌝ }
 {
-    if (seen.rows == 0) | (seen.blank != 0) {
+    if (seen.rows == 0) | !(seen.blank == 0) {
         return seen;
     }
     Seen {
@@ -128,7 +130,7 @@ fn take_row(
     lines: &mut [usize; 32],
 ) -> Step
     requires { ⌜ (start ≤ end) × (end ≤ length (now s)) ⌝ }
-    ensures { λ r. ⌜ Few-rows r ⌝ }
+    ensures { λ r. ⌜ taken-as r (now (cells .exit)) (now (lengths .exit)) (now (lines .exit)) ≡ take-row line (slice start end (now (s .entry))) (rows-of seen (now (cells .entry)) (now (lengths .entry)) (now (lines .entry))) ⌝ }
 {
     let rows = seen.rows;
     if seen.blank != 0 {
@@ -160,8 +162,8 @@ fn take_line(
     lengths: &mut [usize; 32],
     lines: &mut [usize; 32],
 ) -> Step
-    requires { ⌜ (start ≤ end) × (end ≤ length (now s)) × (seen .rows ≤ 32) ⌝ }
-    ensures { λ r. ⌜ Few-rows r ⌝ }
+    requires { ⌜ (start ≤ end) × (end ≤ length (now s)) ⌝ }
+    ensures { λ r. ⌜ taken-as r (now (cells .exit)) (now (lengths .exit)) (now (lines .exit)) ≡ take-line line (slice start end (now (s .entry))) (rows-of seen (now (cells .entry)) (now (lengths .entry)) (now (lines .entry))) ⌝ }
 {
     if end <= start {
         return Step::Next(pass_blank(seen, line));
@@ -179,7 +181,7 @@ fn take_lines(
     lengths: &mut [usize; 32],
     lines: &mut [usize; 32],
 ) -> Step
-    ensures { λ r. ⌜ Few-rows r ⌝ }
+    ensures { λ r. ⌜ taken-as r (now (cells .exit)) (now (lengths .exit)) (now (lines .exit)) ≡ take-lines 0 (lines-of (now (s .entry))) (rows-of (record { rows = 0; blank = 0 }) (now (cells .entry)) (now (lengths .entry)) (now (lines .entry))) ⌝ }
 {
     let mut at = 0;
     let mut line = 0;
@@ -211,49 +213,53 @@ fn is_fault(b: u8) -> bool
 // Judges the length of row x, whose line is given; `second` is the second row's line.
 fn judge_length(n: usize, m: usize, x: usize, length: usize, line: usize, second: usize) -> Judged
     requires { ⌜ (n ≤ 30) × (m ≤ 30) ⌝ }
+    ensures { λ r. ⌜ r ≡ length-test n m x length line second ⌝ }
 {
     if (x == 0) | (x == n + 1) {
-        if (length != m + 1) & (length != m + 2) {
-            return Judged::Wrong(Wrong::Spares(line, m + 1, second));
+        if (length == m + 1) | (length == m + 2) {
+            return Judged::Good;
         }
+        return Judged::Wrong(Wrong::Spares(line, m + 1, second));
+    }
+    if length == m + 2 {
         return Judged::Good;
     }
-    if length != m + 2 {
-        return Judged::Wrong(Wrong::Length(line, length, second, m + 2));
-    }
-    Judged::Good
+    Judged::Wrong(Wrong::Length(line, length, second, m + 2))
 }
 
 // Judges the character in row x and column y, a space where the row has none.
 fn judge_mark(n: usize, m: usize, x: usize, y: usize, b: u8, line: usize) -> Judged
     requires { ⌜ (n ≤ 30) × (m ≤ 30) × (y < 32) ⌝ }
+    ensures { λ r. ⌜ r ≡ letter-test n m x y b line ⌝ }
 {
     if array::is_processor_at(n, m, x, y) {
-        if (b != b'.') & !is_fault(b) {
-            return Judged::Wrong(Wrong::Mark(line, y + 1, b));
+        if (b == b'.') | is_fault(b) {
+            return Judged::Good;
         }
+        return Judged::Wrong(Wrong::Mark(line, y + 1, b));
+    }
+    if (b == b' ') | (b == b'+') {
         return Judged::Good;
     }
-    if (b != b' ') & (b != b'+') {
-        return Judged::Wrong(Wrong::Corner(line, y + 1, b));
-    }
-    Judged::Good
+    Judged::Wrong(Wrong::Corner(line, y + 1, b))
 }
 
 // Judges what stands at a position, at the start of a row first the row's length.
 fn judge(n: usize, m: usize, p: usize, b: u8, length: usize, line: usize, second: usize) -> Judged
     requires { ⌜ (n ≤ 30) × (m ≤ 30) ⌝ }
+    ensures { λ r. ⌜ r ≡ place-test n m (p / 32) (p % 32) b length line second ⌝ }
 {
     let x = p / 32;
     let y = p % 32;
     if n + 1 < x {
         return Judged::Good;
     }
-    if y == 0 {
-        let a = judge_length(n, m, x, length, line, second);
-        if let Judged::Wrong(_) = a {
-            return a;
-        }
+    if 0 < y {
+        return judge_mark(n, m, x, y, b, line);
+    }
+    let a = judge_length(n, m, x, length, line, second);
+    if let Judged::Wrong(_) = a {
+        return a;
     }
     judge_mark(n, m, x, y, b, line)
 }
@@ -267,6 +273,7 @@ fn judge_rows(
     lines: &[usize; 32],
 ) -> Judged
     requires { ⌜ (n ≤ 30) × (m ≤ 30) ⌝ }
+    ensures { λ r. ⌜ r ≡ rows-test n m (now (cells .entry)) (now (lengths .entry)) (now (lines .entry)) ⌝ }
 {
     for p in 0..1024 {
         let x = p / 32;
@@ -292,14 +299,16 @@ fn mark_of(n: usize, m: usize, p: usize, b: u8) -> u8
     0
 }
 
-// Fills a grid by the characters.
-fn fill_grid(n: usize, m: usize, cells: &[u8; 1024], grid: &mut [u8])
-    requires { ⌜ (n ≤ 30) × (m ≤ 30) × (length (now grid) ≡ 1024) ⌝ }
-    ensures { λ _. ⌜ now (grid .exit) ≡ grid-of n m (now (cells .entry)) ⌝ }
+// The grid of the characters.
+fn grid_of(n: usize, m: usize, cells: &[u8; 1024]) -> [u8; 1024]
+    requires { ⌜ (n ≤ 30) × (m ≤ 30) ⌝ }
+    ensures { λ r. ⌜ r ≡ grid-of n m (now (cells .entry)) ⌝ }
 {
+    let mut grid = [2u8; 1024];
     for p in 0..1024 {
         grid[p] = mark_of(n, m, p, cells[p]);
     }
+    grid
 }
 
 // Reads the rows, of which there are so many, into a grid.
@@ -308,10 +317,10 @@ fn read_rows(
     cells: &[u8; 1024],
     lengths: &[usize; 32],
     lines: &[usize; 32],
-    grid: &mut [u8],
+    grid: &mut [u8; 1024],
 ) -> TextRead
-    requires { ⌜ (rows ≤ 32) × (length (now grid) ≡ 1024) ⌝ }
-    ensures { λ r. ⌜ Formed-or-kept r (now (grid .entry)) (now (grid .exit)) ⌝ }
+    requires { ⌜ (rows ≤ 32) × (getD (now lengths) 1 0 ≤ 32) ⌝ }
+    ensures { λ r. ⌜ (r, now (grid .exit)) ≡ read-rows rows (now (cells .entry)) (now (lengths .entry)) (now (lines .entry)) (now (grid .entry)) ⌝ }
 {
     if rows == 0 {
         return TextRead::Wrong(Wrong::Empty);
@@ -320,9 +329,6 @@ fn read_rows(
         return TextRead::Wrong(Wrong::Few(rows));
     }
     let width = lengths[1];
-    if 32 < width {
-        return TextRead::Wrong(Wrong::Wide(lines[1], width));
-    }
     if width < 3 {
         return TextRead::Wrong(Wrong::Narrow(lines[1], width));
     }
@@ -332,7 +338,7 @@ fn read_rows(
     if let Judged::Wrong(w) = a {
         return TextRead::Wrong(w);
     }
-    fill_grid(n, m, cells, grid);
+    *grid = grid_of(n, m, cells);
     TextRead::Grid(n, m)
 }
 
@@ -390,9 +396,8 @@ fn write_tested(n: usize, m: usize, grid: &[u8], out: &mut [u8]) -> FileWritten
 // The operations.
 
 // Reads a text into a grid, which is then well-formed with the N and M that are answered; a text that is wrong leaves the grid as it was.
-pub fn read_text(s: &[u8], grid: &mut [u8]) -> TextRead
-    requires { ⌜ length (now grid) ≡ 1024 ⌝ }
-    ensures { λ r. ⌜ Formed-or-kept r (now (grid .entry)) (now (grid .exit)) ⌝ }
+pub fn read_text(s: &[u8], grid: &mut [u8; 1024]) -> TextRead
+    ensures { λ r. ⌜ (r ≡ read-text (now (s .entry)) (now (grid .entry)) .0) × (now (grid .exit) ≡ read-text (now (s .entry)) (now (grid .entry)) .1) ⌝ }
 {
     let mut cells = [b' '; 1024];
     let mut lengths = [0usize; 32];

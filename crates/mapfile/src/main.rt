@@ -68,7 +68,7 @@ fn say_shape(w: Wrong) {
         Wrong::Few(rows) => {
             say(b"too few rows: ");
             say_number(rows);
-            say(b", but an array has at least 1 row between its spares");
+            say(b", but a text grid has at least 3, the first and the last of them spares");
         }
         Wrong::Many(line) => {
             say_line(line);

@@ -1,13 +1,22 @@
--- `grids::copy_row` is safe: the row and its characters are within the 32 rows of 32.
+-- `grids::copy_row` meets its contract: the characters not yet passed are left to store.
 -- Assumes nothing.
-use Prim.Native.Nat.{_≤_, _-_}
-use mathlib.Core.Path.{_≡_}
+use denote.Ref.{now}
+use Prim.Native.Nat.{_≤_, _+_, _-_}
+use mathlib.Core.Path.{_≡_, _∙_}
+use native.Mathlib.Nat.{add-zero}
+use native.Mathlib.Omega.{arith}
+use lib.Seq.{sets, slice}
+use Rattle.array.specs.Place.{position}
+use Rattle.grids.proofs.Lines.{store-next, no-slice}
 use borrow.Author.Needs.{needs}
 use Rattle.grids.proofs.copy_row.Statement.{statement}
 use Rattle.grids.proofs.copy_row.Tie as tie
 
 abbrev Inv-loop : tie.InvT-loop
-Inv-loop s start end row cells₀ j₀ j-end cells j = (j ≤ end - start) × (j-end ≡ end - start)
+Inv-loop s start end row cells₀ j₀ j-end cells j =
+    (j ≤ end - start)
+    × (j-end ≡ end - start)
+    × (sets cells (position row j) (slice (start + j) end s) ≡ sets cells₀ (position row 0) (slice start end s))
 
 abbrev μ-loop : tie.MeasureT-loop
 μ-loop s start end row cells₀ j₀ j-end cells j = end - start - j
@@ -16,7 +25,7 @@ sub-j-end : tie.Need-sub-j-end Inv-loop μ-loop
 sub-j-end c = search needs
 
 loop-holds : tie.Need-loop-holds Inv-loop μ-loop
-loop-holds c = search needs
+loop-holds c = (omega arith, omega arith, rw (add-zero (c .args .start)))
 
 add-cells : tie.Need-add-cells Inv-loop μ-loop
 add-cells c = search needs
@@ -40,10 +49,22 @@ loop-less : tie.Need-loop-less Inv-loop μ-loop
 loop-less c = search needs
 
 loop-again : tie.Need-loop-again Inv-loop μ-loop
-loop-again c = search needs
+loop-again c =
+    let b = c .before .before in
+    let a = b .before .args in
+    let j = b .loop .j in (
+      omega arith,
+      omega arith,
+      store-next (now (a .s)) (b .loop .cells) (position (a .row) j) (position (a .row) (j + 1)) (a .start + j) (a .start + (j + 1)) (a .end)
+          (omega arith) (omega arith) (omega arith) (omega arith)
+          ∙ b .loop .inv .2,
+    )
 
 returns : tie.Need-returns Inv-loop μ-loop
-returns c = search needs
+returns c =
+    let b = c .before in
+    let a = b .before .args in
+    rw (no-slice (now (a .s)) (a .start + b .loop .j) (a .end) (omega arith)) at (b .loop .inv .2)
 
 pub copy-row-spec : {M : Type 1} → statement M
 copy-row-spec =

@@ -1,18 +1,24 @@
--- `grids::judge_rows` is safe: each position and its row are within their arrays.
+-- `grids::judge_rows` meets its contract: nothing passed is wrong.
 -- Assumes nothing.
+use denote.Ref.{now}
 use Prim.Native.Nat.{_≤_, _-_}
+use mathlib.Core.Path.{_≡_, refl}
+use native.Mathlib.Omega.{arith}
+use Rattle.grids.specs.Reading.{position-test, first-wrong, rows-test}
+use Rattle.grids.proofs.Judging.{wrong-none, wrong-found, wrong-later}
 use borrow.Author.Needs.{needs}
 use Rattle.grids.proofs.judge_rows.Statement.{statement}
 use Rattle.grids.proofs.judge_rows.Tie as tie
 
 abbrev Inv-loop : tie.InvT-loop
-Inv-loop n m cells lengths lines p₀ p = p ≤ 1024
+Inv-loop n m cells lengths lines p₀ p = (p ≤ 1024) × (rows-test n m cells lengths lines ≡ first-wrong (position-test n m cells lengths lines) p (1024 - p))
 
 abbrev μ-loop : tie.MeasureT-loop
 μ-loop n m cells lengths lines p₀ p = 1024 - p
 
 loop-holds : tie.Need-loop-holds Inv-loop μ-loop
-loop-holds c = search needs
+unfolding rows-test
+loop-holds c = (omega arith, refl)
 
 element-copy-out-judge : tie.Need-element-copy-out-judge Inv-loop μ-loop
 element-copy-out-judge c = search needs
@@ -39,7 +45,10 @@ enum-told : tie.Need-enum-told Inv-loop μ-loop
 enum-told c = search needs
 
 returns : tie.Need-returns Inv-loop μ-loop
-returns c = search needs
+returns c =
+    let a = c .before .before .before .before .before .before .before .before .before .args in
+    let l = c .before .before .before .before .before .before .before .before .loop in
+    wrong-found (position-test (a .n) (a .m) (now (a .cells)) (now (a .lengths)) (now (a .lines))) 1024 (l .p) (l .inv .1) (omega arith) (c .before .before .judge .ensures) (c .enum-told .given .1)
 
 enum-told-2 : tie.Need-enum-told-2 Inv-loop μ-loop
 enum-told-2 c = search needs
@@ -51,10 +60,16 @@ loop-less : tie.Need-loop-less Inv-loop μ-loop
 loop-less c = search needs
 
 loop-again : tie.Need-loop-again Inv-loop μ-loop
-loop-again c = search needs
+loop-again c =
+    let a = c .before .before .before .before .before .before .before .before .before .args in
+    let l = c .before .before .before .before .before .before .before .before .loop in
+    (omega arith, wrong-later (position-test (a .n) (a .m) (now (a .cells)) (now (a .lengths)) (now (a .lines))) 1024 (l .p) (l .inv .1) (omega arith) (c .before .before .judge .ensures) (c .enum-told2 .given .1))
 
 returns-2 : tie.Need-returns-2 Inv-loop μ-loop
-returns-2 c = search needs
+returns-2 c =
+    let a = c .before .before .args in
+    let l = c .before .loop in
+    wrong-none (position-test (a .n) (a .m) (now (a .cells)) (now (a .lengths)) (now (a .lines))) 1024 (l .p) (l .inv .1) (omega arith)
 
 pub judge-rows-spec : {M : Type 1} → statement M
 judge-rows-spec =
