@@ -90,8 +90,8 @@ fn microseconds(calls: usize, work: &mut dyn FnMut()) -> f64 {
     start.elapsed().as_secs_f64() * 1e6 / calls as f64
 }
 
-/// Prints microseconds a call of both, and the ratio.
-fn compare(what: &str, calls: usize, library: &mut dyn FnMut(), rust: &mut dyn FnMut()) {
+/// Prints microseconds a call of both, and the ratio; gives the library's.
+fn compare(what: &str, calls: usize, library: &mut dyn FnMut(), rust: &mut dyn FnMut()) -> f64 {
     let (mut ours, mut theirs) = (Vec::new(), Vec::new());
     microseconds(calls, library);
     microseconds(calls, rust);
@@ -101,13 +101,14 @@ fn compare(what: &str, calls: usize, library: &mut dyn FnMut(), rust: &mut dyn F
     }
     let (ours, theirs) = (median(ours), median(theirs));
     println!("{what:<46} {ours:>10.2} {theirs:>10.2} {:>8.2}", theirs / ours);
+    ours
 }
 
 fn compare_trials(faults: usize) {
     let limit = 100_000;
     let grid = find_map(faults, limit, |o| matches!(o, Outcome::Spent(_)));
     let (mut a, mut b) = (vec![0; LONG], vec![0; LONG]);
-    compare(
+    let time = compare(
         &format!("{limit} trials, 30 x 30, {faults} faults"),
         1,
         &mut || {
@@ -117,6 +118,7 @@ fn compare_trials(faults: usize) {
             black_box(same::plan_repair(30, 30, black_box(&grid), &mut b, limit)).ok();
         },
     );
+    println!("    {:.1} million trials a second", f64::from(limit) / time);
 }
 
 fn compare_reading() {
