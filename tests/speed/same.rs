@@ -29,6 +29,11 @@ fn is_processor_at(n: usize, m: usize, x: usize, y: usize) -> bool {
     x <= n + 1 && y <= m + 1 && !((x == 0 || x == n + 1) && (y == 0 || y == m + 1))
 }
 
+/// Asks first what holds at most positions, as the library does; so do the tests 4 and 16.
+fn is_processor(n: usize, m: usize, p: usize) -> bool {
+    is_inner(n, m, p) || is_processor_at(n, m, p / 32, p % 32)
+}
+
 fn check_map(n: usize, m: usize, right: bool, grid: &[u8]) -> Tested {
     if !((1..=30).contains(&n) && (1..=30).contains(&m)) {
         return refuse(1, 0, 0);
@@ -37,7 +42,7 @@ fn check_map(n: usize, m: usize, right: bool, grid: &[u8]) -> Tested {
         return refuse(2, 0, 0);
     }
     for (p, &mark) in grid.iter().enumerate() {
-        let allowed = if is_processor_at(n, m, p / 32, p % 32) { mark <= 1 } else { mark == 2 };
+        let allowed = if is_processor(n, m, p) { mark <= 1 } else { mark == 2 };
         if !allowed {
             return refuse(3, p, 0);
         }
@@ -117,7 +122,8 @@ fn list_faults(n: usize, m: usize, grid: &[u8], out: &mut [u16; LONG]) -> usize 
 fn check_directions(n: usize, m: usize, grid: &[u8], directions: &[u8]) -> Tested {
     for (p, (&mark, &d)) in grid.iter().zip(directions).enumerate() {
         let fault = is_inner(n, m, p) && mark == 1;
-        if d > 4 || (fault && d == 0) || (!fault && d != 0) {
+        let wrong = if d == 0 { fault } else { d > 4 || !fault };
+        if wrong {
             return refuse(4, p, 0);
         }
     }
@@ -428,10 +434,17 @@ fn is_switch_byte(exists: bool, byte: u8) -> bool {
     if exists { (b'a'..=b'd').contains(&byte) } else { byte == 0 }
 }
 
+fn are_switch_bytes(n: usize, m: usize, p: usize, a: u8, d: u8) -> bool {
+    if is_inner(n, m, p) {
+        return is_switch_byte(true, a) && is_switch_byte(true, d);
+    }
+    let (x, y) = (p / 32, p % 32);
+    is_switch_byte(is_switch(n, m, false, x, y), a) && is_switch_byte(is_switch(n, m, true, x, y), d)
+}
+
 fn check_switches(w: &Wafer) -> Tested {
     for (p, (&a, &d)) in w.across.iter().zip(w.down).enumerate() {
-        let (x, y) = (p / 32, p % 32);
-        if !(is_switch_byte(is_switch(w.n, w.m, false, x, y), a) && is_switch_byte(is_switch(w.n, w.m, true, x, y), d)) {
+        if !are_switch_bytes(w.n, w.m, p, a, d) {
             return refuse(16, p, 0);
         }
     }
@@ -456,10 +469,11 @@ fn read_number(s: &[u8], at: usize) -> Result<(u32, usize), Refusal> {
     let Some(&low) = s.get(at) else {
         return refuse(8, s.len(), 0);
     };
+    let next = at + 1;
     if low < 128 {
-        return Ok((low as u32, at + 1));
+        return Ok((low as u32, next));
     }
-    let Some(&high) = s.get(at + 1) else {
+    let Some(&high) = s.get(next) else {
         return refuse(8, s.len(), 0);
     };
     if high >= 128 || high == 0 {
@@ -484,8 +498,10 @@ pub fn read_map(s: &[u8], grid: &mut [u8]) -> Result<(usize, usize, usize), Refu
     let (m, at) = read_size(s, at)?;
     let (count, mut at) = read_number(s, at)?;
     let mut b = [0u8; LONG];
-    for (p, mark) in b.iter_mut().enumerate() {
-        *mark = if is_processor_at(n, m, p / 32, p % 32) { 0 } else { 2 };
+    for x in 0..32 {
+        for y in 0..32 {
+            b[32 * x + y] = if is_processor_at(n, m, x, y) { 0 } else { 2 };
+        }
     }
     for _ in 0..count {
         let (x, second) = read_number(s, at)?;

@@ -1,5 +1,5 @@
-//! How fast the library is, as a ratio to the same algorithms in Rust (same.rs), both measured in one run.
-//! A ratio of 1 is equal speed; above 1 the library is faster.
+//! How fast the library is beside the same algorithms in Rust (same.rs), both measured in one run. Prints a line for each measurement: its name,
+//! the library's microseconds a call and, where it is compared, Rust's, by tabs; `run` makes ratios of them.
 
 #[path = "../rust/chantspruce.rs"]
 #[allow(dead_code)]
@@ -90,8 +90,8 @@ fn microseconds(calls: usize, work: &mut dyn FnMut()) -> f64 {
     start.elapsed().as_secs_f64() * 1e6 / calls as f64
 }
 
-/// Prints microseconds a call of both, and the ratio; gives the library's.
-fn compare(what: &str, calls: usize, library: &mut dyn FnMut(), rust: &mut dyn FnMut()) -> f64 {
+/// Prints microseconds a call of both.
+fn compare(what: &str, calls: usize, library: &mut dyn FnMut(), rust: &mut dyn FnMut()) {
     let (mut ours, mut theirs) = (Vec::new(), Vec::new());
     microseconds(calls, library);
     microseconds(calls, rust);
@@ -99,16 +99,14 @@ fn compare(what: &str, calls: usize, library: &mut dyn FnMut(), rust: &mut dyn F
         ours.push(microseconds(calls, library));
         theirs.push(microseconds(calls, rust));
     }
-    let (ours, theirs) = (median(ours), median(theirs));
-    println!("{what:<46} {ours:>10.2} {theirs:>10.2} {:>8.2}", theirs / ours);
-    ours
+    println!("{what}\t{}\t{}", median(ours), median(theirs));
 }
 
 fn compare_trials(faults: usize) {
     let limit = 100_000;
     let grid = find_map(faults, limit, |o| matches!(o, Outcome::Spent(_)));
     let (mut a, mut b) = (vec![0; LONG], vec![0; LONG]);
-    let time = compare(
+    compare(
         &format!("{limit} trials, 30 x 30, {faults} faults"),
         1,
         &mut || {
@@ -118,7 +116,6 @@ fn compare_trials(faults: usize) {
             black_box(same::plan_repair(30, 30, black_box(&grid), &mut b, limit)).ok();
         },
     );
-    println!("    {:.1} million trials a second", f64::from(limit) / time);
 }
 
 fn compare_reading() {
@@ -204,11 +201,10 @@ fn measure_listing(name: &str) {
     };
     let calls = if name == "spent" { 1 } else { 50 };
     let times = (0..ROUNDS).map(|_| microseconds(calls, &mut work)).collect();
-    println!("{:<46} {:>10.2}", format!("bytes to listing, examples/{name}.map"), median(times));
+    println!("bytes to listing, examples/{name}.map\t{}", median(times));
 }
 
 fn main() {
-    println!("{:<46} {:>10} {:>10} {:>8}", "median of 41 rounds, microseconds a call", "library", "Rust", "ratio");
     for faults in [20, 40, 60] {
         compare_trials(faults);
     }
