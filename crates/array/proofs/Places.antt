@@ -1,14 +1,14 @@
 -- What the tests of a size and of a position say.
 -- Assumes nothing.
-use mathlib.Core.Path.{_≡_, refl}
-use mathlib.Core.Bool.{Bool, true, false, _&&_, _||_}
+use mathlib.Core.Path.{_≡_}
+use mathlib.Core.Bool.{true, false, _&&_, _||_}
 use mathlib.Core.Logic.{_⊎_, inl, inr}
 use Prim.Native.Nat.{ℕ, _+_, _≤_}
 use lib.Dec.{eqb}
 use borrow.Author.Tests.{leb-true, le-leb, ne-eqb}
 use native.Mathlib.Omega.{arith}
 use Rattle.array.specs.Place.{size, inner-at, corner-at, processor-at, inner, row, column}
-use Rattle.array.proofs.Bools.{and-true}
+use Rattle.array.proofs.Bools.{and-true, and-none}
 
 pub record Sized (n m : ℕ) : Type 0 where
   pub rows-low : 1 ≤ n
@@ -53,13 +53,9 @@ pub inner-holds : (n m p : ℕ) → inner n m p ≡ true → Inner n m p
 inner-holds n m p h = inner-at-holds n m (row p) (column p) h
 
 -- A position in the rows and columns of the array is no corner where its row or its column is one of cells.
-and-false : (a : Bool) → (a && false) ≡ false
-and-false true = refl
-and-false false = refl
-
 no-corner : (n m x y : ℕ) → ((1 ≤ x) × (x ≤ n)) ⊎ ((1 ≤ y) × (y ≤ m)) → corner-at n m x y ≡ false
 no-corner n m x y (inl (low, high)) = rw (ne-eqb x 0 (omega arith), ne-eqb x (n + 1) (omega arith))
-no-corner n m x y (inr (low, high)) = rw (ne-eqb y 0 (omega arith), ne-eqb y (m + 1) (omega arith)) (and-false (eqb x 0 || eqb x (n + 1)))
+no-corner n m x y (inr (low, high)) = rw (ne-eqb y 0 (omega arith), ne-eqb y (m + 1) (omega arith)) (and-none (eqb x 0 || eqb x (n + 1)))
 
 pub stands-between : (n m x y : ℕ) → x ≤ n + 1 → y ≤ m + 1 → ((1 ≤ x) × (x ≤ n)) ⊎ ((1 ≤ y) × (y ≤ m)) → processor-at n m x y ≡ true
 stands-between n m x y h g between = rw (le-leb x (n + 1) h, le-leb y (m + 1) g, no-corner n m x y between)

@@ -15,7 +15,7 @@ use Rattle.array.specs.Buffer.{span, buffer, positions-along}
 use Rattle.array.specs.Map.{allowed}
 use Rattle.array.specs.declared.Refusal.{Refusal}
 use Rattle.array.specs.declared.Verdict.the-variants.{Accepted}
-use Rattle.array.proofs.Bools.{by-bool, by-eq, by-lt, and-true, and-both, cond-taken, cond-left}
+use Rattle.array.proofs.Bools.{by-bool, by-eq, by-lt, and-true, and-both, and-none, cond-taken, cond-left}
 use Rattle.array.proofs.Verdicts.{false-accepted, accept-both}
 use Rattle.array.proofs.Places.{sized}
 use Rattle.array.proofs.Fills.{tabulate-at}
@@ -67,8 +67,7 @@ blank-passes Map n m p =
     let a : allowed n m p (blank-mark Map n m p) ≡ true = by-bool (processor n m p) (λ t. rw t refl) (λ t. rw t refl) in
     false-accepted 3 p 0 (ap not a)
 blank-passes Plan n m p =
-    let a : (not (inner n m p) && false) ≡ false = by-bool (inner n m p) (λ t. rw t refl) (λ t. rw t refl) in
-    false-accepted 4 p 0 a
+    false-accepted 4 p 0 (and-none (not (inner n m p)))
 
 blank-free : (kind : Kind) (n m p : ℕ) → recorded kind p (blank-mark kind n m p) ≡ false
 blank-free Map n m p = by-bool (processor n m p) (λ t. rw t refl) (λ t. rw t refl)

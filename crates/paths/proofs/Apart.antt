@@ -1,29 +1,25 @@
 -- The four tests of an overlap: one that fails decides, and the first decides once the others pass.
 -- Assumes nothing.
-use mathlib.Core.Path.{_≡_, refl}
+use mathlib.Core.Path.{_≡_}
 use mathlib.Core.Bool.{Bool, true, false, _&&_}
 use Prim.Native.Nat.{ℕ, _≤_, _<_}
 use borrow.Author.Tests.{le-leb, lt-leb}
 use lib.Dec.{leb}
-use Rattle.array.proofs.Bools.{and-one}
+use Rattle.array.proofs.Bools.{and-one, and-none}
 use Rattle.paths.specs.Extent.{top, bottom, west-end, east-end, overlap}
-
-and-no : (x : Bool) → (x && false) ≡ false
-and-no true = refl
-and-no false = refl
 
 -- of four tests
 first-decides : (a b c d : Bool) → b ≡ true → c ≡ true → d ≡ true → a ≡ (((a && b) && c) && d)
 first-decides a b c d h g f = rw (h, g, f, and-one a, and-one a, and-one a)
 
 second-fails : (a b c d : Bool) → b ≡ false → false ≡ (((a && b) && c) && d)
-second-fails a b c d h = rw (h, and-no a)
+second-fails a b c d h = rw (h, and-none a)
 
 third-fails : (a b c d : Bool) → c ≡ false → false ≡ (((a && b) && c) && d)
-third-fails a b c d h = rw (h, and-no (a && b))
+third-fails a b c d h = rw (h, and-none (a && b))
 
 fourth-fails : (a b c d : Bool) → d ≡ false → false ≡ (((a && b) && c) && d)
-fourth-fails a b c d h = rw (h, and-no ((a && b) && c))
+fourth-fails a b c d h = rw (h, and-none ((a && b) && c))
 
 -- of two paths
 module _ (n m p d q e : ℕ) where

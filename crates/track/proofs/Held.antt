@@ -12,7 +12,7 @@ use lib.Dec.{T, eqb, leb, eqb→eq}
 use lib.ListN.{getD}
 use Rattle.array.specs.Place.{position, row, column, inner-at, inner, processor-at}
 use Rattle.array.specs.Map.{faulty}
-use Rattle.array.proofs.Bools.{and-true}
+use Rattle.array.proofs.Bools.{and-true, and-none}
 use Rattle.array.proofs.Places.{inner-at-holds}
 use Rattle.array.proofs.Fills.{tabulate-at}
 use Rattle.array.proofs.Formed.{Formed, formed}
@@ -28,7 +28,7 @@ use Rattle.track.proofs.Cross.{all, all-at}
 use Rattle.track.proofs.OnPath.{heading, by-heading}
 use Rattle.track.proofs.Seen.{view, planned}
 use Rattle.track.proofs.Paths.{moving-not-still, own-direction, true-if}
-use Rattle.track.proofs.Rules.{and-none, processor-turns}
+use Rattle.track.proofs.Rules.{processor-turns}
 use Rattle.track.proofs.Trails.{there, turned, unturned, down-turned, processor-turned, Alike}
 use Rattle.track.specs.Letters as letters
 use Rattle.track.specs.Link as link

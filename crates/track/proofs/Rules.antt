@@ -20,10 +20,6 @@ pub record Rules (w : View) : Type 0 where
   pub horiz : (x y : ℕ) → 1 ≤ x → x ≤ w .rows → y ≤ w .cols → T (above (horizontal w x y) (horizontal w x (suc y)))
   pub alive : (x y : ℕ) → 1 ≤ x → x ≤ w .rows → 1 ≤ y → y ≤ w .cols → w .faulty x y ≡ true → w .path x y ≡ still → ⊥
 
-pub and-none : (b : Bool) → (b && false) ≡ false
-and-none true = refl
-and-none false = refl
-
 -- a processor stands in the transposed array where it stands in the array
 pub processor-turns : (n m x y : ℕ) → processor-at n m x y ≡ processor-at m n y x
 processor-turns n m x y =
