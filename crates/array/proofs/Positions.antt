@@ -7,7 +7,7 @@ use Prim.Native.Nat.{ℕ, zero, suc, _+_, _<_}
 use native.Mathlib.Omega.{arith}
 use native.Mathlib.Nat.{le-of-suc-le-suc, not-suc-le-zero, add-zero, add-suc, suc-add}
 use lib.ListN.{length, getD}
-use Rattle.array.specs.Buffer.{positions-along, positions-in}
+use Rattle.array.specs.Buffer.{positions-along, positions-in, Ascending}
 use Rattle.array.proofs.Filters.{passes-at, hit-along}
 
 -- where a number stands in a list
@@ -15,6 +15,12 @@ pub record Index (l : List ℕ) (p : ℕ) : Type 0 where
   pub k : ℕ
   pub below : k < length l
   pub is : getD l k 0 ≡ p
+
+-- a list has the positions that pass a test, each once
+pub record Lists (test : ℕ → Bool) (ps : List ℕ) : Type 0 where
+  pub each : (k : ℕ) → k < length ps → test (getD ps k 0) ≡ true
+  pub all : (p : ℕ) → test p ≡ true → Index ps p
+  pub once : (i j : ℕ) → i < j → j < length ps → getD ps i 0 ≡ getD ps j 0 → ⊥
 
 module _ (t : ℕ → ℕ → Bool) where
   after : (i p : ℕ) (q : Bool) (r : List ℕ) → Index r p → Index (cond q (i ∷ r) r) p
@@ -57,6 +63,5 @@ module _ (t : ℕ → ℕ → Bool) where
       rising-cond i (t i x) (positions-along t (suc i) xs) (λ k m. let y = hit-along t (suc i) xs k m in omega (arith, y .is))
       (along-rising (suc i) xs) j k h l
 
-  pub positions-rise : (b : List ℕ) (j k : ℕ) → j < k → k < length (positions-in t b)
-      → getD (positions-in t b) j 0 < getD (positions-in t b) k 0
+  pub positions-rise : (b : List ℕ) → Ascending (positions-in t b)
   positions-rise b j k h l = along-rising 0 b j k h l

@@ -1,10 +1,10 @@
 -- Document 01, "The array": buffers of 1,024 elements indexed by position, as lists.
 -- Assumes nothing.
-use Prim.Native.Nat.{ℕ, zero, suc}
+use Prim.Native.Nat.{ℕ, zero, suc, _<_}
 use mathlib.Core.Bool.{Bool, true, cond, _&&_}
 use mathlib.Core.List.{List, [], _∷_}
 use lib.Dec.{eqb}
-use lib.ListN.{length}
+use lib.ListN.{length, getD}
 use Rattle.array.specs.declared.Verdict.{Verdict}
 use Rattle.array.specs.declared.Verdict.the-variants.{Accepted, Refused}
 
@@ -35,6 +35,10 @@ positions-along t i (x ∷ xs) = cond (t i x) (i ∷ positions-along t (suc i) x
 
 abbrev pub positions-in : (ℕ → ℕ → Bool) → List ℕ → List ℕ
 positions-in t b = positions-along t 0 b
+
+-- each of these positions is below those after it
+abbrev pub Ascending : List ℕ → Type 0
+Ascending ps = (i j : ℕ) → i < j → j < length ps → getD ps i 0 < getD ps j 0
 
 -- a buffer has exactly 1,024 elements
 abbrev pub long : List ℕ → Bool

@@ -10,6 +10,10 @@ use Rattle.array.specs.Tests.{or-else, refuse-if, first-in}
 use Rattle.array.specs.Buffer.{all-long}
 use Rattle.array.specs.declared.Verdict.{Verdict}
 
+-- the marks that count as faulty
+unfoldable pub faulty-mark : ℕ → Bool
+faulty-mark mark = eqb mark 1
+
 -- 0 healthy, 1 faulty, 2 no processor; nothing stands beyond the buffer
 abbrev pub mark-at : List ℕ → ℕ → ℕ
 mark-at grid p = getD grid p 2
@@ -18,7 +22,7 @@ abbrev pub healthy : List ℕ → ℕ → Bool
 healthy grid p = eqb (mark-at grid p) 0
 
 abbrev pub faulty : List ℕ → ℕ → Bool
-faulty grid p = eqb (mark-at grid p) 1
+faulty grid p = faulty-mark (mark-at grid p)
 
 -- the marks that a position allows: 0 or 1 at a processor, 2 elsewhere
 abbrev pub allowed : ℕ → ℕ → ℕ → ℕ → Bool
@@ -53,7 +57,7 @@ well-formed n m grid = map-test n m (grid ∷ []) grid
 
 -- an inner fault: at p, by its mark, and in a grid
 abbrev pub inner-faulty : ℕ → ℕ → ℕ → ℕ → Bool
-inner-faulty n m p mark = inner n m p && eqb mark 1
+inner-faulty n m p mark = inner n m p && faulty-mark mark
 
 abbrev pub inner-fault : ℕ → ℕ → List ℕ → ℕ → Bool
 inner-fault n m grid p = inner-faulty n m p (mark-at grid p)

@@ -4,7 +4,7 @@ ghost use mathlib.Core.Bool.{true};
 ghost use Prim.Native.Nat.{_≤_, _<_};
 ghost use lib.ListN.{length};
 ghost use Rattle.array.specs.Place.{size, inner-at, corner-at, processor-at, inner, processor};
-ghost use Rattle.array.specs.Map.{allowed, marks-test, map-tests};
+ghost use Rattle.array.specs.Map.{faulty-mark, inner-faulty, allowed, marks-test, map-tests};
 
 // The refusal of a call: document 01's number, the place and the second place.
 pub struct Refusal {
@@ -71,6 +71,20 @@ pub fn is_processor(n: usize, m: usize, p: usize) -> bool
         return true;
     }
     is_processor_at(n, m, p / 32, p % 32)
+}
+
+// Whether a mark counts as faulty.
+pub fn is_faulty(mark: u8) -> bool
+    ensures { λ r. ⌜ r ≡ faulty-mark mark ⌝ }
+{
+    mark == 1
+}
+
+// Whether an inner fault is at p, by its mark.
+pub fn is_inner_fault(n: usize, m: usize, p: usize, mark: u8) -> bool
+    ensures { λ r. ⌜ r ≡ inner-faulty n m p mark ⌝ }
+{
+    is_inner(n, m, p) & is_faulty(mark)
 }
 
 pub fn is_allowed(n: usize, m: usize, p: usize, mark: u8) -> bool

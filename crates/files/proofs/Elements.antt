@@ -10,7 +10,7 @@ use lib.ListN.{length, getD, set}
 use borrow.Author.Tests.{leb-true, le-leb, eqb-true, eqb-false, ltb-false, not-true, not-false}
 use Rattle.array.specs.Place.{row, column, position, inner, processor}
 use Rattle.array.specs.Buffer.{positions-along}
-use Rattle.array.specs.Map.{allowed}
+use Rattle.array.specs.Map.{faulty-mark, allowed}
 use Rattle.array.specs.declared.Verdict.the-variants.{Accepted}
 use Rattle.array.proofs.Bools.{by-bool, and-both, or-false, cond-taken, cond-left}
 use Rattle.array.proofs.Verdicts.{accepted-not, accepted-false}
@@ -48,6 +48,7 @@ module _ (n m p v : ℕ) where
   path-stands h e = by-bool (inner n m p) (λ t. t) (λ t. absurd (true≢false (sym e ∙ (rw t at h))))
 
   pub kept : (kind : Kind) → element-test kind n m p v ≡ Accepted → recorded kind p v ≡ true → Kept kind n m p v
+  unfolding faulty-mark
   kept Map h t =
       let s = fault-stands (accepted-not (allowed n m p v) 3 p 0 h) (eqb-true v 1 t) in
       record { stands = s; value = t; free = ap (λ (k : ℕ). eqb k 1) (cond-taken 0 2 refl s) }

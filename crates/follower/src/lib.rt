@@ -203,7 +203,7 @@ fn processor_join(n: usize, m: usize, p: usize, mark: u8, direction: u8, side: u
     requires { ⌜ side ≤ 3 ⌝ }
     ensures { λ r. ⌜ r ≡ processor-joins (inner-faulty n m p mark) direction (compass side) ⌝ }
 {
-    if array::is_inner(n, m, p) & (mark == 1) {
+    if array::is_inner_fault(n, m, p, mark) {
         return fault_join(direction, side);
     }
     Inside::Ends
@@ -258,7 +258,7 @@ fn land(grid: &[u8], port: Port, last: usize, passed: u8) -> Followed
     ensures { λ r. ⌜ r ≡ judged (now (grid .entry)) last passed (enters (port-of port)) ⌝ }
 {
     let place = 32 * port.row + port.column;
-    if grid[place] == 1 {
+    if array::is_faulty(grid[place]) {
         return refuse(17, last);
     }
     Followed::Entered(Landing {

@@ -7,6 +7,7 @@ use lib.Dec.{eqb}
 use lib.ListN.{length}
 use Rattle.array.specs.Place.{row, column, processor}
 use Rattle.array.specs.Buffer.{buffer, zeros, positions-in}
+use Rattle.array.specs.Map.{faulty-mark}
 use Rattle.formats.specs.Number.{bytes-of}
 use Rattle.formats.specs.declared.Kind.{Kind}
 use Rattle.formats.specs.declared.Kind.the-variants.{Map, Plan}
@@ -24,7 +25,7 @@ blank Plan n m = zeros
 
 -- an element that has a record: a fault, spare or inner, or a direction
 abbrev pub recorded : Kind → ℕ → ℕ → Bool
-recorded Map p mark = eqb mark 1
+recorded Map p mark = faulty-mark mark
 recorded Plan p d = not (eqb d 0)
 
 -- the bytes of a record

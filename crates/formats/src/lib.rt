@@ -103,7 +103,7 @@ pub fn is_recorded(kind: Kind, v: u8) -> bool
     ensures { λ r. ⌜ ((p : ℕ) → r ≡ recorded kind p v) ⌝ }
 {
     match kind {
-        Kind::Map => v == 1,
+        Kind::Map => array::is_faulty(v),
         Kind::Plan => !(v == 0),
     }
 }

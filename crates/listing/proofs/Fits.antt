@@ -131,7 +131,7 @@ fault-few : (n m : ℕ) (directions : List ℕ) (p mark : ℕ) → p < 1024 → 
 fault-few n m directions p mark h =
     by-bool (inner-faulty n m p mark)
     (λ t.
-    let i = inner-holds n m p (and-true (inner n m p) (eqb mark 1) t .0) in
+    let i = inner-holds n m p (and-true (inner n m p) _ t .0) in
     rw t (path-short p (getD directions p 0) h, λ u. absurd (omega (arith, i .row-low))))
     (λ t. rw t (omega arith, λ u. refl))
 

@@ -111,7 +111,7 @@ fn write_fault(out: &mut [u8], at: usize, n: usize, m: usize, p: usize, mark: u8
     requires { ⌜ Room (now out) at (cond (inner-faulty n m p mark) (path-line p d) []) ⌝ }
     ensures { λ r. ⌜ Wrote (now (out .entry)) at (cond (inner-faulty n m p mark) (path-line p d) []) r (now (out .exit)) ⌝ }
 {
-    if array::is_inner(n, m, p) & (mark == 1) {
+    if array::is_inner_fault(n, m, p, mark) {
         return write_path(out, at, p, d);
     }
     at

@@ -44,12 +44,12 @@ member-intro f i (suc k) j l h =
     let e : j ≡ i = omega arith in
     or-left (eqb (f j) (f i)) _ (eq-eqb (f j) (f i) (ap f e)))
 
-record Shared (xs ys : List ℕ) : Type 0 where
+pub record Shared (xs ys : List ℕ) : Type 0 where
   pub q : ℕ
   pub left : member q xs ≡ true
   pub right : member q ys ≡ true
 
-share-elim : (xs ys : List ℕ) → share xs ys ≡ true → Shared xs ys
+pub share-elim : (xs ys : List ℕ) → share xs ys ≡ true → Shared xs ys
 unfolding share member
 share-elim [] ys h = absurd (false≢true h)
 share-elim (x ∷ xs) ys h =

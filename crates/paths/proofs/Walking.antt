@@ -6,10 +6,9 @@ use mathlib.Core.List.{List}
 use Prim.Native.Nat.{ℕ, suc, _+_, _-_, _<_, _≤_}
 use native.Mathlib.Numerals.{add-one}
 use native.Mathlib.Omega.{arith}
-use borrow.Author.Tests.{eq-eqb, ne-eqb}
 use lib.ListN.{length, drop, getD}
 use Rattle.array.specs.Buffer.{span}
-use Rattle.array.specs.Map.{faulty}
+use Rattle.array.specs.Map.{faulty-mark, faulty}
 use Rattle.array.proofs.Places.{Inner}
 use Rattle.array.proofs.Marks.{faulty-read}
 use Rattle.paths.specs.Path.{ahead, path-length, path, none-faulty, is-open}
@@ -51,14 +50,16 @@ module _ (n m : ℕ) (grid : List ℕ) (p d : ℕ) where
 
   -- the k-th processor, which stands at q in the buffer, is faulty or not
   module _ (k q : ℕ) (l : k < path-length n m p d) (e : q ≡ ahead p d k) (h : q < length grid) where
-    pub open-stops : getD grid q 0 ≡ 1 → open-from n m grid p d k ≡ false
-    open-stops t =
+    turn-by : {r b : Bool} → r ≡ faulty-mark (getD grid q 0) → r ≡ b
+        → open-from n m grid p d k ≡ (not b && open-from n m grid p d (k + 1))
+    turn-by f t =
         open-turn k l
         ∙ ap (λ (z : Bool). not z && open-from n m grid p d (k + 1))
-        (ap (faulty grid) (sym e) ∙ faulty-read grid q h ∙ eq-eqb _ _ t)
+        (ap (faulty grid) (sym e) ∙ faulty-read grid q h ∙ sym f ∙ t)
 
-    pub open-passes : (getD grid q 0 ≡ 1 → ⊥) → open-from n m grid p d k ≡ open-from n m grid p d (k + 1)
-    open-passes t =
-        open-turn k l
-        ∙ ap (λ (z : Bool). not z && open-from n m grid p d (k + 1))
-        (ap (faulty grid) (sym e) ∙ faulty-read grid q h ∙ ne-eqb _ _ t)
+    pub open-stops : {r : Bool} → r ≡ faulty-mark (getD grid q 0) → r ≡ true → open-from n m grid p d k ≡ false
+    open-stops f t = turn-by f t
+
+    pub open-passes : {r : Bool} → r ≡ faulty-mark (getD grid q 0) → r ≡ false
+        → open-from n m grid p d k ≡ open-from n m grid p d (k + 1)
+    open-passes f t = turn-by f t

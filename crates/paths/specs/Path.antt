@@ -1,4 +1,5 @@
--- Document 01, "Paths and plans": a path is given by the position p of its fault and its direction d.
+-- Document 01, "Paths and plans": a path is given by the position p of its fault and its direction d. It is the compensation path of Kung, Jean
+-- and Chang, "Fault-Tolerant Array Processors Using Single-Track Switches"; open paths, no meeting and no near-miss are its conditions.
 -- Assumes nothing.
 use Prim.Native.Nat.{ℕ, _+_, _-_, _*_, _≤_}
 use mathlib.Core.Path.{_≡_}
@@ -9,8 +10,11 @@ use lib.ListN.{drop}
 use Rattle.array.specs.Place.{row, column, inner}
 use Rattle.array.specs.Buffer.{tabulate}
 use Rattle.array.specs.Map.{faulty}
-use Rattle.array.specs.Tests.{or-else, refuse-if}
+use Rattle.array.specs.Tests.{refuse}
 use Rattle.array.specs.declared.Verdict.{Verdict}
+use Rattle.array.specs.declared.Verdict.the-variants.{Accepted}
+use Rattle.paths.specs.declared.Clash.{Clash}
+use Rattle.paths.specs.declared.Clash.the-variants.{Clear, Meet, NearMiss}
 
 -- a choice by a direction byte, 1 to 4 in this order, and what stands for any other number
 abbrev pub by-direction : {A : Type 0} → ℕ → A → A → A → A → A → A
@@ -66,9 +70,27 @@ east-west p d q e = (eqb d 3 && eqb e 4) && (eqb (difference (row p) (row q)) 1 
 unfoldable pub near-miss : ℕ → ℕ → ℕ → ℕ → Bool
 near-miss p d q e = (south-north p d q e || east-west p d q e) || (south-north q e p d || east-west q e p d)
 
--- 6 and 7 of a pair, with both starts: meeting before near-miss
+-- how two paths clash: they meet, or else they are a near-miss, or else they are clear of each other
+unfoldable pub clash : ℕ → ℕ → ℕ → ℕ → ℕ → ℕ → Clash
+clash n m p d q e = cond (meet n m p d q e) Meet (cond (near-miss p d q e) NearMiss Clear)
+
+-- two paths neither meet nor nearly miss
+abbrev pub is-clear : Clash → Bool
+is-clear Clear = true
+is-clear Meet = false
+is-clear NearMiss = false
+
+unfoldable pub clear : ℕ → ℕ → ℕ → ℕ → ℕ → ℕ → Bool
+clear n m p d q e = is-clear (clash n m p d q e)
+
+-- 6 where they meet, 7 where they are a near-miss, with both starts
+abbrev pub refuse-clash : ℕ → ℕ → Clash → Verdict
+refuse-clash p q Clear = Accepted
+refuse-clash p q Meet = refuse 6 p q
+refuse-clash p q NearMiss = refuse 7 p q
+
 unfoldable pub pair-test : ℕ → ℕ → ℕ → ℕ → ℕ → ℕ → Verdict
-pair-test n m p d q e = or-else (refuse-if (meet n m p d q e) 6 p q) (refuse-if (near-miss p d q e) 7 p q)
+pair-test n m p d q e = refuse-clash p q (clash n m p d q e)
 
 -- a start and a direction that a path may have
 pub record Start (n m p d : ℕ) : Type 0 where

@@ -4,8 +4,15 @@ use array::Verdict;
 ghost use mathlib.Core.Path.{_≡_};
 ghost use Prim.Native.Nat.{_≤_, _<_};
 ghost use lib.ListN.{length};
-ghost use Rattle.paths.specs.Path.{by-direction, ahead, path-length, is-open, near-miss, meet, pair-test, Start};
+ghost use Rattle.paths.specs.Path.{by-direction, ahead, path-length, is-open, near-miss, meet, clash, clear, pair-test, Start};
 ghost use Rattle.paths.specs.Extent.{overlap};
+
+// How two paths clash. Meeting comes before near-miss.
+pub enum Clash {
+    Clear,
+    Meet,
+    NearMiss,
+}
 
 fn choose(d: u8, south: usize, north: usize, east: usize, west: usize, other: usize) -> usize
     ensures { λ r. ⌜ r ≡ by-direction d south north east west other ⌝ }
@@ -54,7 +61,7 @@ pub fn is_open(n: usize, m: usize, grid: &[u8], p: usize, d: u8) -> bool
 {
     let count = length_of(n, m, p, d);
     for k in 1..count {
-        if grid[step_ahead(n, m, p, d, k)] == 1 {
+        if array::is_faulty(grid[step_ahead(n, m, p, d, k)]) {
             return false;
         }
     }
@@ -83,7 +90,7 @@ fn do_overlap(n: usize, m: usize, p: usize, d: u8, q: usize, e: u8) -> bool
 }
 
 // Whether two paths share a processor.
-pub fn do_meet(n: usize, m: usize, p: usize, d: u8, q: usize, e: u8) -> bool
+fn do_meet(n: usize, m: usize, p: usize, d: u8, q: usize, e: u8) -> bool
     requires { ⌜ Start n m p d × Start n m q e ⌝ }
     ensures { λ r. ⌜ r ≡ meet n m p d q e ⌝ }
 {
@@ -114,30 +121,56 @@ fn do_face(p: usize, d: u8, q: usize, e: u8) -> bool
     false
 }
 
-pub fn is_near_miss(p: usize, d: u8, q: usize, e: u8) -> bool
+fn is_near_miss(p: usize, d: u8, q: usize, e: u8) -> bool
     ensures { λ r. ⌜ r ≡ near-miss p d q e ⌝ }
 {
     do_face(p, d, q, e) | do_face(q, e, p, d)
 }
 
-// Tests 6 and 7 of two paths.
-pub fn check_pair(n: usize, m: usize, p: usize, d: u8, q: usize, e: u8) -> Verdict
-    requires { ⌜ Start n m p d × Start n m q e ⌝ }
-    ensures { λ r. ⌜ r ≡ pair-test n m p d q e ⌝ }
+// How two paths from distinct starts clash.
+pub fn find_clash(n: usize, m: usize, p: usize, d: u8, q: usize, e: u8) -> Clash
+    requires { ⌜ Start n m p d × Start n m q e × (p ≡ q → ⊥) ⌝ }
+    ensures { λ r. ⌜ r ≡ clash n m p d q e ⌝ }
 {
     if do_meet(n, m, p, d, q, e) {
-        return Verdict::Refused(Refusal {
+        return Clash::Meet;
+    }
+    if is_near_miss(p, d, q, e) {
+        return Clash::NearMiss;
+    }
+    Clash::Clear
+}
+
+// Whether two paths from distinct starts neither meet nor nearly miss.
+pub fn are_clear(n: usize, m: usize, p: usize, d: u8, q: usize, e: u8) -> bool
+    requires { ⌜ Start n m p d × Start n m q e × (p ≡ q → ⊥) ⌝ }
+    ensures { λ r. ⌜ r ≡ clear n m p d q e ⌝ }
+{
+    let found = find_clash(n, m, p, d, q, e);
+    match found {
+        Clash::Clear => true,
+        Clash::Meet => false,
+        Clash::NearMiss => false,
+    }
+}
+
+// Tests 6 and 7 of two paths from distinct starts.
+pub fn check_pair(n: usize, m: usize, p: usize, d: u8, q: usize, e: u8) -> Verdict
+    requires { ⌜ Start n m p d × Start n m q e × (p ≡ q → ⊥) ⌝ }
+    ensures { λ r. ⌜ r ≡ pair-test n m p d q e ⌝ }
+{
+    let found = find_clash(n, m, p, d, q, e);
+    match found {
+        Clash::Clear => Verdict::Accepted,
+        Clash::Meet => Verdict::Refused(Refusal {
             number: 6,
             place: p,
             second: q,
-        });
-    }
-    if is_near_miss(p, d, q, e) {
-        return Verdict::Refused(Refusal {
+        }),
+        Clash::NearMiss => Verdict::Refused(Refusal {
             number: 7,
             place: p,
             second: q,
-        });
+        }),
     }
-    Verdict::Accepted
 }

@@ -10,12 +10,14 @@ use lib.Dec.{eqb, ltb}
 use lib.ListN.{length, getD, take, drop, length-append}
 use lib.Seq.{take-at, drop-at}
 use Rattle.array.specs.Place.{inner}
+use Rattle.array.specs.Buffer.{Ascending}
 use Rattle.array.specs.Map.{inner-faulty, inner-fault}
 use Rattle.array.proofs.Bools.{and-true, or-false}
 use Rattle.array.proofs.Verdicts.{accepted-false}
 use Rattle.array.proofs.Scans.{buffer-scan, scan-each}
 use Rattle.array.proofs.Filters.{Hit, position-at, positions-short}
 use Rattle.array.proofs.Marks.{mark-read}
+use Rattle.array.proofs.Positions.{positions-rise}
 use Rattle.paths.specs.Path.{Start}
 use Rattle.plans.specs.Faults.{faults, directions-at}
 use Rattle.plans.specs.Check.{wrong-direction, direction-test}
@@ -37,6 +39,10 @@ pub fault-hit : (n m : ℕ) (grid : List ℕ) (k : ℕ) → k < length (faults n
     → Hit (inner-faulty n m) grid (getD (faults n m grid) k 0)
 unfolding faults
 fault-hit n m grid k h = position-at (inner-faulty n m) grid k h
+
+pub faults-rise : (n m : ℕ) (grid : List ℕ) → Ascending (faults n m grid)
+unfolding faults
+faults-rise n m grid = positions-rise (inner-faulty n m) grid
 
 pub faults-short : (n m : ℕ) (grid : List ℕ) → length (faults n m grid) ≤ length grid
 unfolding faults
@@ -91,4 +97,5 @@ module _ (n m : ℕ) (grid directions : List ℕ) (t : Directed n m grid directi
         each = λ k h.
             subst (λ (d : ℕ). Start n m (getD (faults n m grid) k 0) d) (sym (direction-at directions (faults n m grid) k h))
             (fault-start k h);
+        ascend = faults-rise n m grid;
       }

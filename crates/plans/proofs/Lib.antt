@@ -1,5 +1,6 @@
 pub mod Pairing
 pub mod Facts
+pub mod ByPosition
 pub mod Planned
 pub mod Accepts
 pub mod Tested

@@ -12,21 +12,20 @@ use lib.Dec.{ltb, eqb}
 use lib.ListN.{length, getD, take, drop, drop-of-length-le}
 use lib.Seq.{drop-cons, take-all}
 use Rattle.array.specs.Place.{inner}
-use Rattle.array.specs.Map.{inner-faulty, well-formed}
+use Rattle.array.specs.Map.{well-formed}
 use Rattle.array.specs.Tests.{or-else, refuse}
 use Rattle.array.specs.declared.Verdict.{Verdict}
 use Rattle.array.specs.declared.Verdict.the-variants.{Accepted, Refused}
 use Rattle.array.proofs.Bools.{and-true, or-false, by-lt}
 use Rattle.array.proofs.Places.{inner-holds}
 use Rattle.array.proofs.Verdicts.{both-accepted, accept-both, accepted-false, false-accepted}
-use Rattle.array.proofs.Positions.{positions-rise}
 use Rattle.array.proofs.Formed.{formed}
 use Rattle.plans.specs.Faults.{faults, fault, paired}
 use Rattle.plans.specs.Check.{paths-test}
 use Rattle.plans.specs.Inner.{Starts}
 use Rattle.plans.specs.FaultList.{lower, wrong-entry, entry-test, listed-test, check-fault-list, positions-of, directions-of}
 use Rattle.plans.specs.declared.Fault.{Fault}
-use Rattle.plans.proofs.Facts.{fault-hit}
+use Rattle.plans.proofs.Facts.{fault-hit, faults-rise}
 
 -- r is the lower of p and q
 pub record Lower (p q r : ℕ) : Type 0 where
@@ -161,17 +160,17 @@ list-starts n m grid fs a b h =
           let x = fault-hit n m grid k l in
           let d = listed-straight (faults n m grid) fs h k l in
           record { rows = a; columns = b; at = and-true (inner n m (getD (faults n m grid) k 0)) _ (x .passes) .0; low = d .0; high = d .1 };
+      ascend = faults-rise n m grid;
     }
 
 -- The first 1,024 decide: an inner fault does not stand at 0, so there are fewer.
 fault-above : (n m : ℕ) (grid : List ℕ) (k : ℕ) → k < length (faults n m grid) → k < getD (faults n m grid) k 0
-unfolding faults
 fault-above n m grid zero h =
     let p = getD (faults n m grid) 0 0 in
     let x = inner-holds n m p (and-true (inner n m p) _ (fault-hit n m grid 0 h .passes) .0) in
     omega (arith, x .row-low)
 fault-above n m grid (suc k) h =
-    omega (arith, fault-above n m grid k (omega arith), positions-rise (inner-faulty n m) grid k (suc k) (omega arith) h)
+    omega (arith, fault-above n m grid k (omega arith), faults-rise n m grid k (suc k) (omega arith) h)
 
 pub faults-few : (n m : ℕ) (grid : List ℕ) → length grid ≡ 1024 → length (faults n m grid) < 1024
 faults-few n m grid e =

@@ -1,30 +1,20 @@
 -- The tests 5 to 7 pass a choice of directions exactly when it is a plan.
 -- Assumes nothing.
-use mathlib.Core.Path.{_≡_, ap}
-use mathlib.Core.Bool.{false, not}
+use mathlib.Core.Path.{_≡_, sym, ap, _∙_}
+use mathlib.Core.Bool.{false, not, true≢false}
 use mathlib.Core.List.{List}
 use Prim.Native.Nat.{ℕ, _+_, _<_}
 use native.Mathlib.Omega.{arith}
 use lib.ListN.{length, getD}
 use Rattle.array.specs.declared.Verdict.the-variants.{Accepted}
-use Rattle.array.proofs.Verdicts.{both-accepted, accept-both, accepted-false, false-accepted, accepted-not}
+use Rattle.array.proofs.Verdicts.{both-accepted, accept-both, false-accepted, accepted-not}
 use Rattle.array.proofs.Scans.{scan-each, scan-each-from, scan-all, scan-all-from}
-use Rattle.paths.specs.Path.{is-open, meet, near-miss, pair-test}
+use Rattle.paths.specs.Path.{is-open, meet, near-miss}
+use Rattle.paths.proofs.Clashes.{clear-neither, neither-clear, accepted-clear, clear-accepted}
 use Rattle.plans.specs.Faults.{faults, paired}
-use Rattle.plans.specs.Plan.{Choice, Plan}
+use Rattle.plans.specs.Plan.{Choice, Plan, Blocked, not-open, meeting, near}
 use Rattle.plans.specs.Check.{open-test, opens-test, clash-test, pairs-test, paths-test}
 use Rattle.plans.proofs.Pairing.{fault-at, faults-scan, pairs-scan}
-
--- what the pair test says where it refuses nothing
-pair-clear : (n m p d q e : ℕ) → pair-test n m p d q e ≡ Accepted → (meet n m p d q e ≡ false) × (near-miss p d q e ≡ false)
-unfolding pair-test
-pair-clear n m p d q e h =
-    let a = both-accepted _ _ h in
-    (accepted-false (meet n m p d q e) 6 p q (a .0), accepted-false (near-miss p d q e) 7 p q (a .1))
-
-clear-pair : (n m p d q e : ℕ) → meet n m p d q e ≡ false → near-miss p d q e ≡ false → pair-test n m p d q e ≡ Accepted
-unfolding pair-test
-clear-pair n m p d q e h g = accept-both (false-accepted 6 p q h) (false-accepted 7 p q g)
 
 module _ (n m : ℕ) (grid ds : List ℕ) where
   abbrev starts : List ℕ
@@ -41,7 +31,7 @@ module _ (n m : ℕ) (grid ds : List ℕ) where
     clear i j h l =
         let a = scan-each (pairs-scan starts ds same n m) pairs i (omega (arith, same)) in
         let b = scan-each-from (faults-scan starts ds same (clash-test n m (fault-at starts ds i))) (i + 1) a j (omega arith) (omega (arith, same)) in
-        pair-clear n m (getD starts i 0) (getD ds i 0) (getD starts j 0) (getD ds j 0) b
+        clear-neither n m _ _ _ _ (accepted-clear n m (getD starts i 0) (getD ds i 0) (getD starts j 0) (getD ds j 0) b)
 
     planned : Plan n m grid ds
     planned =
@@ -70,8 +60,8 @@ module _ (n m : ℕ) (grid ds : List ℕ) where
 
     pair-right : (i j : ℕ) → i < j → j < length starts → clash-test n m (fault-at starts ds i) (fault-at starts ds j) ≡ Accepted
     pair-right i j h l =
-        clear-pair n m (getD starts i 0) (getD ds i 0) (getD starts j 0) (getD ds j 0)
-        (plan .no-meeting i j h (omega (arith, as-many))) (plan .no-near-miss i j h (omega (arith, as-many)))
+        clear-accepted n m (getD starts i 0) (getD ds i 0) (getD starts j 0) (getD ds j 0)
+        (neither-clear n m _ _ _ _ (plan .no-meeting i j h (omega (arith, as-many))) (plan .no-near-miss i j h (omega (arith, as-many))))
 
     pub plan-paths : paths-test n m grid (paired starts ds) ≡ Accepted
     unfolding paths-test
@@ -80,3 +70,9 @@ module _ (n m : ℕ) (grid ds : List ℕ) where
         (scan-all (pairs-scan starts ds as-many n m)
         (λ i h. scan-all-from (faults-scan starts ds as-many (clash-test n m (fault-at starts ds i))) (i + 1)
         (λ j g l. pair-right i j (omega arith) l)))
+
+-- a plan is not blocked
+pub plan-not-blocked : (n m : ℕ) (grid xs : List ℕ) → Plan n m grid xs → Blocked n m grid xs → ⊥
+plan-not-blocked n m grid xs p (not-open k l e) = true≢false (sym (p .open-path k l) ∙ e)
+plan-not-blocked n m grid xs p (meeting i j a b e) = true≢false (sym e ∙ p .no-meeting i j a b)
+plan-not-blocked n m grid xs p (near i j a b e) = true≢false (sym e ∙ p .no-near-miss i j a b)

@@ -4,15 +4,17 @@ use Prim.Native.Nat.{ℕ, _≤_, _<_}
 use mathlib.Core.Path.{_≡_}
 use mathlib.Core.List.{List}
 use lib.ListN.{length, getD, take, drop}
+use Rattle.array.specs.Buffer.{Ascending}
 use Rattle.array.specs.declared.Verdict.the-variants.{Accepted}
 use Rattle.paths.specs.Path.{Start}
 use Rattle.plans.specs.Faults.{faults}
 use Rattle.plans.specs.Check.{directions-test}
 
--- each of these positions is a start with the direction beside it
+-- each of these ascending positions is a start with the direction beside it
 pub record Starts (n m : ℕ) (starts ds : List ℕ) : Type 0 where
   pub same : length ds ≡ length starts
   pub each : (k : ℕ) → k < length starts → Start n m (getD starts k 0) (getD ds k 0)
+  pub ascend : Ascending starts
 
 -- the first `count` elements of a buffer are the inner faults in row order, and the others are as they were
 pub record Listed (n m : ℕ) (grid old new : List ℕ) (count : ℕ) : Type 0 where

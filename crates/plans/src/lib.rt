@@ -35,7 +35,7 @@ pub fn list_faults(n: usize, m: usize, grid: &[u8], out: &mut [u16]) -> usize
 {
     let mut count = 0;
     for p in 0..1024 {
-        if array::is_inner(n, m, p) & (grid[p] == 1) {
+        if array::is_inner_fault(n, m, p, grid[p]) {
             out[count] = p as u16;
             count += 1;
         }
@@ -46,7 +46,7 @@ pub fn list_faults(n: usize, m: usize, grid: &[u8], out: &mut [u16]) -> usize
 fn is_wrong(n: usize, m: usize, p: usize, mark: u8, d: u8) -> bool
     ensures { λ r. ⌜ r ≡ wrong-direction (inner-faulty n m p mark) d ⌝ }
 {
-    let fault = array::is_inner(n, m, p) & (mark == 1);
+    let fault = array::is_inner_fault(n, m, p, mark);
     // most positions have no direction
     if d == 0 {
         return fault;
@@ -113,9 +113,9 @@ fn check_opens(n: usize, m: usize, grid: &[u8], starts: &[u16], ds: &[u8]) -> Ve
     Verdict::Accepted
 }
 
-// Tests 6 and 7 of the i-th and the j-th fault.
+// Tests 6 and 7 of the i-th and the j-th fault, a later one.
 fn check_pair_at(n: usize, m: usize, starts: &[u16], ds: &[u8], i: usize, j: usize) -> Verdict
-    requires { ⌜ Starts n m (now starts) (now ds) × (i < length (now starts)) × (j < length (now starts)) ⌝ }
+    requires { ⌜ Starts n m (now starts) (now ds) × (i < j) × (j < length (now starts)) ⌝ }
     ensures { λ r. ⌜ r ≡ clash-test n m (fault (getD (now (starts .entry)) i 0) (getD (now (ds .entry)) i 0)) (fault (getD (now (starts .entry)) j 0) (getD (now (ds .entry)) j 0)) ⌝ }
 {
     paths::check_pair(n, m, wide(starts[i]), ds[i], wide(starts[j]), ds[j])

@@ -6,7 +6,7 @@ use mathlib.Core.Bool.{Bool, true, false, cond, not, _&&_}
 use mathlib.Core.Logic.{_⊎_, inl, inr, ⊎-elim, _↔_}
 use mathlib.Core.List.{List, [], _∷_, List·Memᴰ}
 use native.Mathlib.Omega.{arith}
-use borrow.Author.Tests.{eqb-true, eq-eqb, le-leb, lt-ltb, ne-eqb}
+use borrow.Author.Tests.{eq-eqb, le-leb, lt-ltb}
 use lib.Dec.{ltb}
 use lib.ListN.{length, getD}
 use Rattle.array.specs.Place.{position, row, column, inner, processor}
@@ -18,6 +18,7 @@ use Rattle.array.proofs.Bools.{and-true}
 use Rattle.array.proofs.Verdicts.{accept-both, false-accepted}
 use Rattle.array.proofs.Fills.{tabulate-length}
 use Rattle.array.proofs.Formed.{formed, formed-lent, grid-and}
+use Rattle.array.proofs.Marks.{healthy-not-faulty}
 use Rattle.plans.specs.Faults.{faults, directions-at, paired}
 use Rattle.plans.specs.Plan.{Plan, Every-choice-blocked, First-plan}
 use Rattle.plans.specs.Check.{check-plan, plan-test}
@@ -41,8 +42,8 @@ use Rattle.track.proofs.Accepted.{switches-pass, placement-holds}
 use Rattle.repair.specs.Operations.{plan-repair, directions-after, place-cells, places-after, route-switches, across-after, down-after, link-tests, follow-link, answer-after, followed-after}
 use Rattle.repair.specs.Demand3.{Given, Good, answer, planned-directions, placing, places-held, routing, routed, following, paths, T-of, held, Reached, Neighbour-link, pieces-of, After-repaired, Demand3, Demand-3}
 use Rattle.repair.specs.declared.Answer.the-variants.{Planned}
-use Rattle.repair.proofs.Outcomes.{above-spent, spent-above, carried, beyond-exhausted, exhausted-beyond, repaired-found}
-use Rattle.repair.proofs.Written.{paths-again, zero-elsewhere, held-long}
+use Rattle.trials.proofs.Outcomes.{above-spent, spent-above, carried, beyond-exhausted, exhausted-beyond, repaired-found}
+use Rattle.trials.proofs.Written.{paths-again, zero-elsewhere, held-long}
 use Rattle.track.specs.Theorems as track
 
 same-outcome : (o p : Outcome) → Planned o ≡ Planned p → o ≡ p
@@ -243,8 +244,7 @@ module _ (g : Given) (good : Good g) where
     not-faulty : (p : ℕ) → healthy grid p ≡ true → faulty grid (position-of (processor-of p)) ≡ false
     not-faulty p h =
         let e : position (row p) (column p) ≡ p = omega arith in
-        let k = eqb-true (mark-at grid p) 0 h in
-        rw e (ne-eqb (mark-at grid p) 1 (λ z. omega (arith, k, z)))
+        rw e (healthy-not-faulty (mark-at grid p) h)
 
     all-reach : (i j side k l : ℕ) (port : Compass) → Neighbour w i j side k l port → Reached g i j side k l port
     all-reach i j side k l port to =

@@ -192,7 +192,7 @@ fn state_at(grid: &[u8], traced: &[u8], down: bool, p: usize) -> u8
     requires { ⌜ (length (now grid) ≡ 1024) × (length (now traced) ≡ 1024) × (p < 1024) ⌝ }
     ensures { λ r. ⌜ (r ≡ state-by down (now (grid .entry)) (now (traced .entry)) p) × (r ≤ 4) ⌝ }
 {
-    state_of(down, traced[p], grid[p] == 1)
+    state_of(down, traced[p], array::is_faulty(grid[p]))
 }
 
 // Inner part: whether a switch is filed under p.

@@ -5,13 +5,14 @@ use mathlib.Core.Bool.{Bool, true, false, cond, not, _&&_}
 use mathlib.Core.List.{List}
 use Prim.Native.Nat.{ℕ, _+_}
 use native.Mathlib.Omega.{arith}
-use borrow.Author.Tests.{le-leb, eqb-true}
-use lib.Dec.{T, eqb, leb}
+use borrow.Author.Tests.{le-leb}
+use lib.Dec.{T, leb}
 use lib.ListN.{length, getD}
 use Rattle.array.specs.Place.{position, row, column, inner}
 use Rattle.array.specs.Map.{mark-at, faulty}
 use Rattle.array.proofs.Bools.{and-both}
 use Rattle.array.proofs.Fills.{tabulate-at, tabulate-length}
+use Rattle.array.proofs.Marks.{healthy-not-faulty}
 use Rattle.array.proofs.Scans.{scan-all, buffer-scan}
 use Rattle.array.proofs.Verdicts.{false-accepted}
 use Rattle.track.specs.Placement.{placed-at, placement}
@@ -96,9 +97,6 @@ neighbour-cell w i j side k l port (right c h) =
 neighbour-cell w i j side k l port (lower c h) =
     record { row-low = omega arith; row-high = omega arith; column-low = c .column-low; column-high = c .column-high }
 
-not-faulty : (k : ℕ) → eqb k 0 ≡ true → eqb k 1 ≡ false
-not-faulty k h = ap (λ (z : ℕ). eqb z 1) (eqb-true k 0 h)
-
 pub follower-arrives : Follower-arrives
 follower-arrives w r i j side k l port h =
     let g = reaches w r i j side k l port h in
@@ -115,7 +113,7 @@ follower-arrives w r i j side k l port h =
             is-link = g .is-link;
             end = processor-of q at port;
             ends = g .ends;
-            healthy-end = rw e (not-faulty (mark-at (w .grid) q) (sits w r k l c .1));
+            healthy-end = rw e (healthy-not-faulty (mark-at (w .grid) q) (sits w r k l c .1));
             few = g .few;
             is = refl;
           })

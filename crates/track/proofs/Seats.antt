@@ -1,13 +1,14 @@
 -- Where the cells of a routed wafer sit: each on a healthy processor, no two on the same one.
 -- Assumes nothing.
 use mathlib.Core.Path.{_≡_, refl, sym, ap, subst, _∙_}
-use mathlib.Core.Bool.{true, false, cond}
+use mathlib.Core.Bool.{true, false}
 use Prim.Native.Nat.{ℕ, zero, suc, _≤_}
 use native.Mathlib.Omega.{arith}
-use borrow.Author.Tests.{leb-true, le-leb, ne-eqb, eq-eqb, eqb-false}
-use lib.Dec.{eqb, leb}
+use borrow.Author.Tests.{le-leb, ne-eqb}
+use lib.Dec.{leb}
 use Rattle.array.specs.Place.{position, row, column, processor-at, processor}
 use Rattle.array.specs.Map.{mark-at, faulty, healthy}
+use Rattle.array.proofs.Marks.{healthy-else}
 use Rattle.paths.specs.Path.{ahead}
 use Rattle.track.specs.Ports.{Wafer, Processor}
 use Rattle.track.specs.Follower.{processor-of}
@@ -65,14 +66,6 @@ rests v p k l a b west e =
     let q = north-up (transposed v) (transposed-plan v p) l (suc k) (ap tr e) in
     record { path-is = untr _ north (q .0); healthy-is = q .1 }
 
--- a mark that is allowed at a processor and is not 1 is 0
-healthy-mark : (k : ℕ) → cond true (leb k 1) (eqb k 2) ≡ true → eqb k 1 ≡ false → eqb k 0 ≡ true
-healthy-mark k h e =
-    let a = leb-true k 1 h in
-    let b = eqb-false k 1 e in
-    let z : k ≡ 0 = omega arith in
-    eq-eqb k 0 z
-
 module _ (w : Wafer) (r : Routed w) (k l : ℕ) (hi : suc k ≤ w .rows) (hj : suc l ≤ w .columns) where
   -- where [k + 1, l + 1] sits
   abbrev place : Place
@@ -110,7 +103,7 @@ module _ (w : Wafer) (r : Routed w) (k l : ℕ) (hi : suc k ≤ w .rows) (hj : s
       let a : processor (w .rows) (w .columns) (holder w (suc k) (suc l)) ≡ true = rw (row-is, column-is) stands-there in
       let f : faulty (w .grid) (holder w (suc k) (suc l)) ≡ false = rw holder-is (rests-there .healthy-is) in
       let b = formed-of w r .marks (holder w (suc k) (suc l)) (omega (arith, holder-is, low-row, low-column)) in
-      (a, healthy-mark (mark-at (w .grid) (holder w (suc k) (suc l))) (rw a at b) f)
+      (a, healthy-else (mark-at (w .grid) (holder w (suc k) (suc l))) (rw a at b) f)
 
 pub sits : Cells-sit
 sits w r zero j c = absurd (omega (arith, c .row-low))

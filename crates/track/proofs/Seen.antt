@@ -10,10 +10,10 @@ use borrow.Author.Tests.{leb-true, le-leb, lt-ltb, ne-eqb}
 use lib.Dec.{T, eqb, leb}
 use lib.ListN.{length, getD}
 use Rattle.array.specs.Place.{position, row, column, inner-at, inner}
-use Rattle.array.specs.Map.{faulty, inner-faulty}
+use Rattle.array.specs.Map.{faulty-mark, faulty, inner-faulty}
 use Rattle.array.proofs.Bools.{and-true, and-both, by-bool, by-eq, by-lt}
 use Rattle.array.proofs.Places.{Inner, inner-holds, inner-at-holds}
-use Rattle.array.proofs.Fills.{same-default}
+use Rattle.array.proofs.Marks.{faulty-read}
 use Rattle.array.proofs.Filters.{position-at}
 use Rattle.array.proofs.Positions.{Index, position-index}
 use Rattle.array.proofs.Formed.{Formed}
@@ -78,14 +78,14 @@ module _ (n m : ℕ) (grid directions : List ℕ) (f : Formed n m grid) (pl : Pl
   unfolding faults
   fault-of k h =
       let x = position-at (inner-faulty n m) grid k h in
-      let a = and-true (inner n m (getD ps k 0)) (eqb (getD grid (getD ps k 0) 0) 1) (x .passes) in
+      let a = and-true (inner n m (getD ps k 0)) (faulty-mark (getD grid (getD ps k 0) 0)) (x .passes) in
       let l : k < length (directions-at directions ps) = omega (arith, length-directions directions ps) in
       let e = direction-at directions ps k h in
       let s = pl .one-path .straight k l in
       record {
         place = inner-holds n m _ (a .0);
         inner-is = a .0;
-        faulty-is = ap (λ (z : ℕ). eqb z 1) (same-default grid _ 2 0 (x .below)) ∙ a .1;
+        faulty-is = faulty-read grid _ (x .below) ∙ a .1;
         low = omega (arith, e, s);
         high = omega (arith, e, s);
         opens = rw e at (pl .open-path k l);
@@ -98,7 +98,7 @@ module _ (n m : ℕ) (grid directions : List ℕ) (f : Formed n m grid) (pl : Pl
       let c = inner-holds n m p i in
       let s = f .sizes in
       let l : p < length grid = omega (arith, f .length-is) in
-      position-index (inner-faulty n m) grid p l (and-both _ _ i (ap (λ (z : ℕ). eqb z 1) (same-default grid p 0 2 l) ∙ b))
+      position-index (inner-faulty n m) grid p l (and-both _ _ i (sym (faulty-read grid p l) ∙ b))
 
   fault-at : (p : ℕ) → Index ps p → Fault-at p
   fault-at p i = rw (i .is) at (fault-of (i .k) (i .below))

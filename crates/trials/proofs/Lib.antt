@@ -1,7 +1,10 @@
 pub mod Offers
 pub mod Laws
 pub mod Plans
+pub mod Written
+pub mod Completing
 pub mod Theorems
+pub mod Outcomes
 pub mod Rest
 pub mod Looping
 pub mod Testing

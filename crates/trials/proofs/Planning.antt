@@ -7,10 +7,11 @@ use mathlib.Core.List.{List}
 use native.Mathlib.Omega.{arith}
 use lib.ListN.{length, getD, take}
 use Rattle.array.specs.Place.{inner}
+use Rattle.array.specs.Buffer.{Ascending}
 use Rattle.array.proofs.Bools.{and-true}
 use Rattle.plans.specs.Faults.{faults}
 use Rattle.plans.specs.Inner.{Listed}
-use Rattle.plans.proofs.Facts.{fault-hit}
+use Rattle.plans.proofs.Facts.{fault-hit, faults-rise}
 use Rattle.trials.specs.declared.Outcome.{Outcome}
 use Rattle.trials.specs.Search.{searched, planned, outcome, directions-written}
 use Rattle.trials.specs.Inner.{Searchable, Holds, finished}
@@ -27,6 +28,7 @@ module _ {n m : ℕ} {grid old out : List ℕ} {count : ℕ} (s : Listed n m gri
         inside =
             subst (λ (fs : List ℕ). (i : ℕ) → i < length fs → inner n m (getD fs i 0) ≡ true) (sym (s .front))
             (λ i h. and-true (inner n m (getD (faults n m grid) i 0)) _ (fault-hit n m grid i h .passes) .0);
+        ascend = subst Ascending (sym (s .front)) (faults-rise n m grid);
         room = omega (arith, s .size, s .short);
       }
 

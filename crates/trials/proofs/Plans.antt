@@ -2,8 +2,8 @@
 -- of each other, and other directions have a path or a pair that says why not. So the trial rule finds the first of the former, or shows that
 -- all directions are of the latter. Assumes nothing.
 use Prim.Native.Nat.{ℕ, zero, suc, _≤_, _<_}
-use mathlib.Core.Path.{_≡_, refl, ap, sym, subst, _∙_}
-use mathlib.Core.Bool.{Bool, true, false, _&&_, true≢false}
+use mathlib.Core.Path.{_≡_, refl, ap, subst}
+use mathlib.Core.Bool.{Bool, true, false, _&&_}
 use mathlib.Core.Logic.{_⊎_, inl, inr, ⊎-elim}
 use mathlib.Core.List.{List, [], _∷_}
 use native.Mathlib.Nat.{le-of-suc-le-suc, not-suc-le-zero}
@@ -158,35 +158,32 @@ module _ (opens : ℕ → ℕ → Bool) (clear : ℕ → ℕ → ℕ → ℕ →
       (λ a. inr (clash-before 0 (omega arith) a)))
       (λ o. inr (shut 0 (omega arith) o))
 
-  sound-not-wrong : (ps xs : List ℕ) (kept : List Fault) → Sound kept ps xs → Wrong kept ps xs → ⊥
-  sound-not-wrong ps xs kept s (shut k h e) = true≢false (sym (s .open-at k h) ∙ e)
-  sound-not-wrong ps xs kept s (clash-before k h e) = true≢false (sym (s .apart-at k h) ∙ e)
-  sound-not-wrong ps xs kept s (clash i j l h e) = true≢false (sym (s .clear-at i j l h) ∙ e)
-
-  -- the trial rule over faults at any positions
-  module _ (ps : List ℕ) where
+  -- the trial rule over faults at any positions, after those that have kept their directions
+  module _ (kept : List Fault) (ps : List ℕ) where
     abbrev ended : Search
-    ended = trials (keeps opens clear) [] ps
+    ended = trials (keeps opens clear) kept ps
 
-    said : (s : Search) → ended ≡ s → Answers (keeps opens clear) [] ps s
-    said s e = subst (Answers (keeps opens clear) [] ps) e (answers (keeps opens clear) ps [])
+    said : (s : Search) → ended ≡ s → Answers (keeps opens clear) kept ps s
+    said s e = subst (Answers (keeps opens clear) kept ps) e (answers (keeps opens clear) ps kept)
 
     -- what is found is sound, and nothing sound comes before it
-    pub found-first : (k : ℕ) (xs : List ℕ) → ended ≡ found k xs
-        → Sound [] ps xs × ((ys : List ℕ) → Sound [] ps ys → Not-after xs ys)
-    found-first k xs e =
-        let h = said (found k xs) e in
-        (kept-sound ps xs [] (h .0), λ ys s. h .1 ys (sound-kept ps ys [] s))
+    pub found-sound : (k : ℕ) (xs : List ℕ) → ended ≡ found k xs → Sound kept ps xs
+    found-sound k xs e = kept-sound ps xs kept (said (found k xs) e .0)
 
-    -- where nothing is found, all directions are wrong
-    pub exhausted-wrong : (k : ℕ) → ended ≡ exhausted k → (xs : List ℕ) → Chosen ps xs → Wrong [] ps xs
-    exhausted-wrong k e xs h = ⊎-elim (λ v. absurd (said (exhausted k) e xs v)) (λ w. w) (kept-or-wrong ps xs [] h)
+    pub found-first : (k : ℕ) (xs : List ℕ) → ended ≡ found k xs → (ys : List ℕ) → Sound kept ps ys → Not-after xs ys
+    found-first k xs e ys s = said (found k xs) e .1 ys (sound-kept ps ys kept s)
 
-    -- and where all directions are wrong, nothing is found
-    pub wrong-exhausted : ((xs : List ℕ) → Chosen ps xs → Wrong [] ps xs) → ended ≡ exhausted (count ended)
-    wrong-exhausted w = by ended refl
+    -- where nothing is found, no directions are sound, and each choice of them is wrong
+    pub exhausted-unsound : (k : ℕ) → ended ≡ exhausted k → (xs : List ℕ) → Sound kept ps xs → ⊥
+    exhausted-unsound k e xs s = said (exhausted k) e xs (sound-kept ps xs kept s)
+
+    pub exhausted-wrong : (k : ℕ) → ended ≡ exhausted k → (xs : List ℕ) → Chosen ps xs → Wrong kept ps xs
+    exhausted-wrong k e xs h = ⊎-elim (λ v. absurd (said (exhausted k) e xs v)) (λ w. w) (kept-or-wrong ps xs kept h)
+
+    -- and where no directions are sound, nothing is found
+    pub unsound-exhausted : ((xs : List ℕ) → Sound kept ps xs → ⊥) → ended ≡ exhausted (count ended)
+    unsound-exhausted none = by ended refl
       where
         by : (s : Search) → ended ≡ s → s ≡ exhausted (count s)
-        by (found k xs) e =
-            let s = found-first k xs e .0 in absurd (sound-not-wrong ps xs [] s (w xs (s .chosen)))
+        by (found k xs) e = absurd (none xs (found-sound k xs e))
         by (exhausted k) e = refl

@@ -20,7 +20,7 @@ start-at s i d h a b = record { rows = s .rows; columns = s .columns; at = s .in
 pub still-searchable : {n m : ℕ} {grid starts before : List ℕ} → Searchable n m grid starts before
     → (after : List ℕ) → length after ≡ length before → Searchable n m grid starts after
 still-searchable s after e =
-    record { rows = s .rows; columns = s .columns; marks = s .marks; inside = s .inside; room = omega (arith, s .room) }
+    record { rows = s .rows; columns = s .columns; marks = s .marks; inside = s .inside; ascend = s .ascend; room = omega (arith, s .room) }
 
 module _ (opens : ℕ → ℕ → Bool) (clear : ℕ → ℕ → ℕ → ℕ → Bool) (starts chosen : List ℕ) (k d : ℕ) where
   abbrev p : ℕ

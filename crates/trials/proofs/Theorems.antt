@@ -2,55 +2,24 @@
 -- Assumes nothing.
 use Prim.Native.Nat.{ℕ, _+_, _*_, _^_, _≤_}
 use mathlib.Core.Path.{_≡_, refl, sym}
-use mathlib.Core.Bool.{Bool, true, false, not, _&&_, true≢false}
-use mathlib.Core.Logic.{_⊎_, inl, inr, ⊎-elim}
+use mathlib.Core.Bool.{true≢false}
+use mathlib.Core.Logic.{_↔_, ⊎-elim}
 use mathlib.Core.List.{List, []}
 use native.Mathlib.Numerals.{add-one}
 use lib.ListN.{length}
-use Rattle.paths.specs.Path.{is-open, meet, near-miss}
-use Rattle.plans.specs.Faults.{faults}
+use Rattle.paths.specs.Path.{is-open, clear}
+use Rattle.paths.proofs.Clashes.{clear-neither, neither-clear, clash-either}
+use Rattle.plans.specs.Faults.{faults, paired}
 use Rattle.plans.specs.Plan.{Plan, Blocked, not-open, meeting, near, Every-choice-blocked, First-plan}
-use Rattle.trials.specs.Trials.{found, exhausted, trials, keeps, clear-of}
-use Rattle.trials.specs.Search.{clear, searched, planned, T}
+use Rattle.plans.specs.PlanAt.{Plan-on}
+use Rattle.plans.proofs.Planned.{plan-not-blocked}
+use Rattle.plans.proofs.ByPosition.{faults-list, plan-on, listed}
+use Rattle.trials.specs.Trials.{Search, found, exhausted, trials, keeps, clear-of}
+use Rattle.trials.specs.Search.{direction-of, searched, planned, T}
 use Rattle.trials.specs.Theorems.{Trial-rule}
 use Rattle.trials.proofs.Laws.{trials-bound}
-use Rattle.trials.proofs.Plans.{Sound, Wrong, shut, clash-before, clash, found-first, exhausted-wrong, wrong-exhausted}
-
--- two paths are clear where they neither meet nor nearly miss
-module _ (n m p d q e : ℕ) where
-  clear-both : clear n m p d q e ≡ true → (meet n m p d q e ≡ false) × (near-miss p d q e ≡ false)
-  unfolding clear
-  clear-both h = by (meet n m p d q e) (near-miss p d q e) h
-    where
-      by : (a b : Bool) → (not a && not b) ≡ true → (a ≡ false) × (b ≡ false)
-      by false false h = (refl, refl)
-      by false true h = absurd (true≢false (sym h))
-      by true b h = absurd (true≢false (sym h))
-
-  clear-intro : meet n m p d q e ≡ false → near-miss p d q e ≡ false → clear n m p d q e ≡ true
-  unfolding clear
-  clear-intro a b = rw (a, b)
-
-  clear-not : clear n m p d q e ≡ false → (meet n m p d q e ≡ true) ⊎ (near-miss p d q e ≡ true)
-  unfolding clear
-  clear-not h = by (meet n m p d q e) (near-miss p d q e) h
-    where
-      by : (a b : Bool) → (not a && not b) ≡ false → (a ≡ true) ⊎ (b ≡ true)
-      by true b h = inl refl
-      by false true h = inr refl
-      by false false h = absurd (true≢false h)
-
-  meets-not : meet n m p d q e ≡ true → clear n m p d q e ≡ false
-  unfolding clear
-  meets-not h = rw h
-
-  near-not : near-miss p d q e ≡ true → clear n m p d q e ≡ false
-  unfolding clear
-  near-not h = by (meet n m p d q e) (near-miss p d q e) h
-    where
-      by : (a b : Bool) → b ≡ true → (not a && not b) ≡ false
-      by true b h = refl
-      by false b h = rw h
+use Rattle.trials.proofs.Plans.{Sound, Wrong, shut, clash-before, clash, found-sound, found-first, exhausted-wrong, unsound-exhausted}
+use Rattle.trials.proofs.Written.{direction-there}
 
 module _ (n m : ℕ) (grid : List ℕ) where
   abbrev Sound-at : List ℕ → Type 0
@@ -66,7 +35,7 @@ module _ (n m : ℕ) (grid : List ℕ) where
         chosen = record { one-each = h .one-path .one-each; straight = h .one-path .straight };
         open-at = h .open-path;
         apart-at = λ k l. refl;
-        clear-at = λ i j a b. clear-intro n m _ _ _ _ (h .no-meeting i j a b) (h .no-near-miss i j a b);
+        clear-at = λ i j a b. neither-clear n m _ _ _ _ (h .no-meeting i j a b) (h .no-near-miss i j a b);
       }
 
   sound-plan : (xs : List ℕ) → Sound-at xs → Plan n m grid xs
@@ -74,39 +43,55 @@ module _ (n m : ℕ) (grid : List ℕ) where
       record {
         one-path = record { one-each = s .chosen .one-each; straight = s .chosen .straight };
         open-path = s .open-at;
-        no-meeting = λ i j a b. clear-both n m _ _ _ _ (s .clear-at i j a b) .0;
-        no-near-miss = λ i j a b. clear-both n m _ _ _ _ (s .clear-at i j a b) .1;
+        no-meeting = λ i j a b. clear-neither n m _ _ _ _ (s .clear-at i j a b) .0;
+        no-near-miss = λ i j a b. clear-neither n m _ _ _ _ (s .clear-at i j a b) .1;
       }
 
   wrong-blocked : (xs : List ℕ) → Wrong-at xs → Blocked n m grid xs
   unfolding clear-of
   wrong-blocked xs (shut k l e) = not-open k l e
   wrong-blocked xs (clash-before k l e) = absurd (true≢false e)
-  wrong-blocked xs (clash i j a b e) = ⊎-elim (λ q. meeting i j a b q) (λ q. near i j a b q) (clear-not n m _ _ _ _ e)
+  wrong-blocked xs (clash i j a b e) = ⊎-elim (λ q. meeting i j a b q) (λ q. near i j a b q) (clash-either n m _ _ _ _ e)
 
-  blocked-wrong : (xs : List ℕ) → Blocked n m grid xs → Wrong-at xs
-  blocked-wrong xs (not-open k l e) = shut k l e
-  blocked-wrong xs (meeting i j a b e) = clash i j a b (meets-not n m _ _ _ _ e)
-  blocked-wrong xs (near i j a b e) = clash i j a b (near-not n m _ _ _ _ e)
+  abbrev fs : List ℕ
+  fs = faults n m grid
 
   first-of-plans : (k : ℕ) (xs : List ℕ) → planned n m grid ≡ found k xs → First-plan n m grid xs
   unfolding planned searched
   first-of-plans k xs e =
-      let h = found-first (is-open n m grid) (clear n m) (faults n m grid) k xs e in
-      record { is-plan = sound-plan xs (h .0); none-before = λ ys p. h .1 ys (plan-sound ys p) }
+      record {
+        is-plan = sound-plan xs (found-sound (is-open n m grid) (clear n m) [] fs k xs e);
+        none-before = λ ys p. found-first (is-open n m grid) (clear n m) [] fs k xs e ys (plan-sound ys p);
+      }
 
   none-found : (k : ℕ) → planned n m grid ≡ exhausted k → Every-choice-blocked n m grid
   unfolding planned searched
   none-found k e xs h =
       wrong-blocked xs
-      (exhausted-wrong (is-open n m grid) (clear n m) (faults n m grid) k e xs
-      (record { one-each = h .one-each; straight = h .straight }))
+      (exhausted-wrong (is-open n m grid) (clear n m) [] fs k e xs (record { one-each = h .one-each; straight = h .straight }))
 
   none-there : Every-choice-blocked n m grid → planned n m grid ≡ exhausted (T n m grid)
   unfolding T planned searched
   none-there b =
-      wrong-exhausted (is-open n m grid) (clear n m) (faults n m grid)
-      (λ xs h. blocked-wrong xs (b xs (record { one-each = h .one-each; straight = h .straight })))
+      unsound-exhausted (is-open n m grid) (clear n m) [] fs
+      (λ xs s. let p = sound-plan xs s in plan-not-blocked n m grid xs p (b xs (p .one-path)))
+
+  -- the plan of a list of directions, said by position
+  placed : (xs : List ℕ) → Plan n m grid xs → Plan-on n m grid (direction-of (paired fs xs))
+  placed xs plan =
+      let many = plan .one-path .one-each in
+      plan-on n m grid xs (direction-of (paired fs xs)) many
+      (λ k h. sym (direction-there fs xs k many (faults-list n m grid .once) h)) plan
+
+  beyond-by-position : Every-choice-blocked n m grid ↔ ((dir : ℕ → ℕ) → Plan-on n m grid dir → ⊥)
+  beyond-by-position = (
+    λ b dir plan. let p = listed n m grid dir plan in plan-not-blocked n m grid _ p (b _ (p .one-path)),
+    λ never. by never (planned n m grid) refl,
+  )
+    where
+      by : ((dir : ℕ → ℕ) → Plan-on n m grid dir → ⊥) → (s : Search) → planned n m grid ≡ s → Every-choice-blocked n m grid
+      by never (found k xs) e = absurd (never (direction-of (paired fs xs)) (placed xs (first-of-plans k xs e .is-plan)))
+      by never (exhausted k) e = none-found k e
 
   bound : 3 * T n m grid + 4 ≤ 4 ^ (length (faults n m grid) + 1)
   unfolding T planned searched
@@ -121,6 +106,7 @@ trial-rule = record {
   first-of-plans = λ n m k grid xs e. first-of-plans n m grid k xs e;
   none-found = λ n m k grid e. none-found n m grid k e;
   none-there = none-there;
+  beyond-by-position = beyond-by-position;
   bound = bound;
   no-fault = no-fault;
 }

@@ -6,12 +6,12 @@ use mathlib.Core.Bool.{Bool, true}
 use mathlib.Core.List.{List, [], _∷_}
 use lib.ListN.{length, getD}
 use Rattle.array.specs.Place.{inner}
-use Rattle.array.specs.Buffer.{buffer, zeros}
-use Rattle.paths.specs.Path.{is-open}
+use Rattle.array.specs.Buffer.{Ascending, buffer, zeros}
+use Rattle.paths.specs.Path.{is-open, clear}
 use Rattle.plans.specs.Faults.{fault, paired}
 use Rattle.plans.specs.declared.Fault.{Fault}
 use Rattle.trials.specs.Trials.{Search, found, exhausted, keeps}
-use Rattle.trials.specs.Search.{clear, direction-of}
+use Rattle.trials.specs.Search.{direction-of}
 use Rattle.trials.specs.declared.Outcome.{Outcome}
 use Rattle.trials.specs.declared.Outcome.the-variants.{Repaired, Beyond, Spent}
 
@@ -28,12 +28,14 @@ keeps-on n m grid = keeps (is-open n m grid) (clear n m)
 abbrev pub Straight-front : List ℕ → ℕ → Type 0
 Straight-front chosen k = (i : ℕ) → i < k → (1 ≤ getD chosen i 0) × (getD chosen i 0 ≤ 4)
 
--- what the search works over: an array of at most 30 by 30, its grid, the inner starts, and room for a direction for each
+-- what the search works over: an array of at most 30 by 30, its grid, the ascending inner starts, and room
+-- for a direction for each
 pub record Searchable (n m : ℕ) (grid starts chosen : List ℕ) : Type 0 where
   pub rows : n ≤ 30
   pub columns : m ≤ 30
   pub marks : length grid ≡ 1024
   pub inside : (i : ℕ) → i < length starts → inner n m (getD starts i 0) ≡ true
+  pub ascend : Ascending starts
   pub room : length starts ≤ length chosen
 
 -- these directions are the plan found, where one is found within the limit

@@ -1,4 +1,5 @@
 pub mod Trials
 pub mod Search
+pub mod Completing
 pub mod Theorems
 pub mod Inner

@@ -1,20 +1,16 @@
 -- Document 01, "Choosing": the trials of a fault map, T, the outcome under a limit, and the direction buffer.
 -- Assumes nothing.
 use Prim.Native.Nat.{ℕ}
-use mathlib.Core.Bool.{Bool, cond, not, _&&_}
+use mathlib.Core.Bool.{cond}
 use mathlib.Core.List.{List, [], _∷_}
 use lib.Dec.{leb, eqb}
 use Rattle.array.specs.Buffer.{buffer, zeros}
-use Rattle.paths.specs.Path.{is-open, meet, near-miss}
+use Rattle.paths.specs.Path.{is-open, clear}
 use Rattle.plans.specs.Faults.{faults, paired}
 use Rattle.plans.specs.declared.Fault.{Fault}
 use Rattle.trials.specs.Trials.{Search, found, exhausted, trials, keeps, count}
 use Rattle.trials.specs.declared.Outcome.{Outcome}
 use Rattle.trials.specs.declared.Outcome.the-variants.{Repaired, Beyond, Spent}
-
--- two paths neither meet nor nearly miss
-unfoldable pub clear : ℕ → ℕ → ℕ → ℕ → ℕ → ℕ → Bool
-clear n m p d q e = not (meet n m p d q e) && not (near-miss p d q e)
 
 -- the trials over faults at these positions
 unfoldable pub searched : ℕ → ℕ → List ℕ → List ℕ → Search

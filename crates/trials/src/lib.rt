@@ -3,9 +3,8 @@ ghost use mathlib.Core.Path.{_≡_};
 ghost use Prim.Native.Nat.{ℕ, _≤_, _<_};
 ghost use lib.ListN.{length, getD, take};
 ghost use Rattle.array.specs.Buffer.{buffer, zeros};
-ghost use Rattle.paths.specs.Path.{Start};
 ghost use Rattle.plans.specs.Faults.{faults, paired};
-ghost use Rattle.trials.specs.Search.{clear, searched, planned, outcome, direction-of, directions-written};
+ghost use Rattle.trials.specs.Search.{searched, planned, outcome, direction-of, directions-written};
 ghost use Rattle.trials.specs.Inner.{kept-in, keeps-on, Straight-front, Searchable, Holds, finished};
 
 // The planner's outcome, with its count: T, or the limit where the search is spent.
@@ -13,17 +12,6 @@ pub enum Outcome {
     Repaired(u32),
     Beyond(u32),
     Spent(u32),
-}
-
-// Inner part: whether two paths neither meet nor nearly miss.
-fn is_clear(n: usize, m: usize, p: usize, d: u8, q: usize, e: u8) -> bool
-    requires { ⌜ Start n m p d × Start n m q e ⌝ }
-    ensures { λ r. ⌜ r ≡ clear n m p d q e ⌝ }
-{
-    if paths::do_meet(n, m, p, d, q, e) {
-        return false;
-    }
-    !paths::is_near_miss(p, d, q, e)
 }
 
 // Inner part: whether fault k keeps direction d, after the directions that the faults before it have kept.
@@ -40,7 +28,7 @@ fn is_kept(n: usize, m: usize, grid: &[u8], starts: &[u16], chosen: &[u8], k: us
     let mut j = k;
     while 0 < j {
         j -= 1;
-        if !is_clear(n, m, starts[j] as usize, chosen[j], p, d) {
+        if !paths::are_clear(n, m, starts[j] as usize, chosen[j], p, d) {
             return false;
         }
     }

@@ -1,37 +1,29 @@
 -- `listing::write_fault` meets its contract.
 -- Assumes nothing.
-use mathlib.Core.Path.{_≡_, refl}
-use mathlib.Core.Bool.{_&&_}
+use mathlib.Core.Path.{refl}
 use mathlib.Core.List.{[]}
-use lib.Dec.{eqb}
 use native.Mathlib.Omega.{arith}
-use Rattle.array.specs.Map.{inner-faulty}
 use Rattle.array.proofs.Bools.{cond-taken, cond-left}
 use Rattle.listing.specs.Listing.{path-line}
 use borrow.Author.Needs.{needs}
 use Rattle.listing.proofs.write_fault.Statement.{statement}
 use Rattle.listing.proofs.write_fault.Tie as tie
 
--- the test, as the code answers it
-tested : (c : tie.After-is-inner) → let a = c .before .before .args in
-    (c .is-inner .result && eqb (a .mark) 1) ≡ inner-faulty (a .n) (a .m) (a .p) (a .mark)
-tested c = rw (c .is-inner .ensures)
-
-is-inner-requires : tie.Need-is-inner-requires
-is-inner-requires c κs = search needs
+is-inner-fault-requires : tie.Need-is-inner-fault-requires
+is-inner-fault-requires c κs = search needs
 
 write-path-requires : tie.Need-write-path-requires
-write-path-requires c κs = let a = c .before .before .before .before .args in rw (cond-taken (path-line (a .p) (a .d)) [] (tested (c .before .before)) (c .before .if1 .taken)) at (c .before .before .before .before .pre)
+write-path-requires c κs = let a = c .before .before .before .before .args in rw (cond-taken (path-line (a .p) (a .d)) [] (c .before .before .is-inner-fault .ensures) (c .before .if1 .taken)) at (c .before .before .before .before .pre)
 
 same-length : tie.Need-same-length
 same-length c = search needs
 
 returns : tie.Need-returns
-returns c = let a = c .before .before .before .before .before .before .before .args in rw (cond-taken (path-line (a .p) (a .d)) [] (tested (c .before .before .before .before .before)) (c .before .before .before .before .if1 .taken)) (c .before .before .write-path .ensures)
+returns c = let a = c .before .before .before .before .before .before .before .args in rw (cond-taken (path-line (a .p) (a .d)) [] (c .before .before .before .before .before .is-inner-fault .ensures) (c .before .before .before .before .if1 .taken)) (c .before .before .write-path .ensures)
 
 returns-2 : tie.Need-returns-2
-returns-2 c = let a = c .before .before .before .args in rw (cond-left (path-line (a .p) (a .d)) [] (tested (c .before)) (c .if1 .left)) (omega arith, refl)
+returns-2 c = let a = c .before .before .before .args in rw (cond-left (path-line (a .p) (a .d)) [] (c .before .is-inner-fault .ensures) (c .if1 .left)) (omega arith, refl)
 
 pub write-fault-spec : {M : Type 1} → statement M
 write-fault-spec =
-    tie.close (tie.spec is-inner-requires write-path-requires same-length returns returns-2)
+    tie.close (tie.spec is-inner-fault-requires write-path-requires same-length returns returns-2)

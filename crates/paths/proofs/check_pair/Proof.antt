@@ -1,35 +1,34 @@
--- `paths::check_pair` meets its contract: the tests in order.
+-- `paths::check_pair` meets its contract, by the clash.
 -- Assumes nothing.
-use mathlib.Core.Path.{sym}
-use Rattle.array.proofs.Bools.{cond-taken, cond-left}
-use Rattle.array.proofs.Verdicts.{test-refuses, test-passes}
-use Rattle.paths.specs.Path.{pair-test}
+use mathlib.Core.Path.{sym, ap, _∙_}
+use Rattle.paths.specs.Path.{refuse-clash, pair-test}
 use borrow.Author.Needs.{needs}
 use Rattle.paths.proofs.check_pair.Statement.{statement}
 use Rattle.paths.proofs.check_pair.Tie as tie
 
-do-meet-requires : tie.Need-do-meet-requires
-do-meet-requires c κs = search needs
+find-clash-requires : tie.Need-find-clash-requires
+find-clash-requires c κs = search needs
+
+enum-told : tie.Need-enum-told
+enum-told c = search needs
+
+enum-told-2 : tie.Need-enum-told-2
+enum-told-2 c = search needs
+
+enum-told-3 : tie.Need-enum-told-3
+enum-told-3 c = search needs
 
 returns : tie.Need-returns
 unfolding pair-test
-returns c = test-refuses (c .before .do-meet .ensures) _ (c .if1 .taken)
-
-is-near-miss-requires : tie.Need-is-near-miss-requires
-is-near-miss-requires c κs = search needs
+returns c = ap (refuse-clash _ _) (sym (c .enum-told .given .1) ∙ c .before .before .find-clash .ensures)
 
 returns-2 : tie.Need-returns-2
 unfolding pair-test
-returns-2 c =
-    test-passes (c .before .before .before .do-meet .ensures) _ _ _ (c .before .before .if1 .left)
-    (sym (cond-taken _ _ (c .before .is-near-miss .ensures) (c .if2 .taken)))
+returns-2 c = ap (refuse-clash _ _) (sym (c .enum-told2 .given .1) ∙ c .before .before .find-clash .ensures)
 
 returns-3 : tie.Need-returns-3
 unfolding pair-test
-returns-3 c =
-    test-passes (c .before .before .before .do-meet .ensures) _ _ _ (c .before .before .if1 .left)
-    (sym (cond-left _ _ (c .before .is-near-miss .ensures) (c .if2 .left)))
+returns-3 c = ap (refuse-clash _ _) (sym (c .enum-told3 .given .1) ∙ c .before .before .find-clash .ensures)
 
 pub check-pair-spec : {M : Type 1} → statement M
-check-pair-spec =
-    tie.close (tie.spec do-meet-requires returns is-near-miss-requires returns-2 returns-3)
+check-pair-spec = tie.close (tie.spec find-clash-requires enum-told enum-told-2 enum-told-3 returns returns-2 returns-3)

@@ -36,17 +36,20 @@ loop-holds c =
 step-ahead-requires : tie.Need-step-ahead-requires Inv-loop μ-loop
 step-ahead-requires c κs = search needs
 
-shared-slice-read-if1 : tie.Need-shared-slice-read-if1 Inv-loop μ-loop
-shared-slice-read-if1 c = omega arith
+shared-slice-read-is-faulty : tie.Need-shared-slice-read-is-faulty Inv-loop μ-loop
+shared-slice-read-is-faulty c = omega arith
+
+is-faulty-requires : tie.Need-is-faulty-requires Inv-loop μ-loop
+is-faulty-requires c κs = search needs
 
 returns : tie.Need-returns Inv-loop μ-loop
 returns c =
-    let l = c .before .before .before .before in
+    let l = c .before .before .before .before .before in
     let a = l .before .before .before .args in
-    let r = c .before .before .step-ahead in
+    let r = c .before .before .before .step-ahead in
     sym (l .loop .inv .1
     ∙ open-stops (a .n) (a .m) (a .grid .now) (a .p) (a .d) (l .loop .k) (r .result) (omega arith) (r .ensures .0) (omega (arith, r .ensures .1))
-    (c .if1 .taken))
+    (c .before .is-faulty .ensures) (c .if1 .taken))
 
 add-k : tie.Need-add-k Inv-loop μ-loop
 add-k c = omega arith
@@ -56,13 +59,13 @@ loop-less c = omega arith
 
 loop-again : tie.Need-loop-again Inv-loop μ-loop
 loop-again c =
-    let l = c .before .before .before .before in
+    let l = c .before .before .before .before .before in
     let a = l .before .before .before .args in
-    let r = c .before .before .step-ahead in (
+    let r = c .before .before .before .step-ahead in (
       omega arith,
       l .loop .inv .1
           ∙ open-passes (a .n) (a .m) (a .grid .now) (a .p) (a .d) (l .loop .k) (r .result) (omega arith) (r .ensures .0) (omega (arith, r .ensures .1))
-          (c .if1 .left),
+          (c .before .is-faulty .ensures) (c .if1 .left),
     )
 
 returns-2 : tie.Need-returns-2 Inv-loop μ-loop
@@ -79,7 +82,8 @@ is-open-spec =
     length-of-requires
     loop-holds
     step-ahead-requires
-    shared-slice-read-if1
+    shared-slice-read-is-faulty
+    is-faulty-requires
     returns
     add-k
     loop-less

@@ -2,7 +2,7 @@
 -- Assumes nothing.
 use mathlib.Core.Path.{_≡_, refl, _∙_}
 use mathlib.Core.List.{List}
-use Prim.Native.Nat.{ℕ, _-_, _+_}
+use Prim.Native.Nat.{ℕ, _-_, _+_, _<_}
 use lib.ListN.{length, drop}
 use Rattle.array.specs.Tests.{first-of}
 use Rattle.array.specs.declared.Verdict.{Verdict}
@@ -33,6 +33,7 @@ pairs-from n m starts ds i = pairs-test n m (drop i (paired starts ds))
 abbrev Inv-loop : tie.InvT-loop
 Inv-loop n m starts ds count found₀ i j₀ found j =
     Seeking (pair-at n m starts ds i) (pairs-with n m starts ds i) (length starts) j (pairs-of n m starts ds i) × (found ≡ Accepted)
+    × (i < j)
 
 abbrev μ-loop : tie.MeasureT-loop
 μ-loop n m starts ds count found₀ i j₀ found j = length starts - j
@@ -51,13 +52,13 @@ add-j : tie.Need-add-j Inv-loop μ-loop Inv-pairs μ-pairs
 add-j c = omega arith
 
 loop-holds : tie.Need-loop-holds Inv-loop μ-loop Inv-pairs μ-pairs
-loop-holds c = (seek-start (faults-scan _ _ (c .before .before .before .before .pre .same) _) _ (omega arith), c .before .pairs .inv .1)
+loop-holds c = (seek-start (faults-scan _ _ (c .before .before .before .before .pre .same) _) _ (omega arith), c .before .pairs .inv .1, omega arith)
 
 check-pair-at-requires : tie.Need-check-pair-at-requires Inv-loop μ-loop Inv-pairs μ-pairs
 check-pair-at-requires c κs =
     let l = c .before in
     let o = l .before .before in
-    (o .before .before .before .pre, omega arith, omega arith)
+    (o .before .before .before .pre, l .loop .inv .2, omega arith)
 
 enum-told : tie.Need-enum-told Inv-loop μ-loop Inv-pairs μ-pairs
 enum-told c = search needs
@@ -75,7 +76,7 @@ loop-again : tie.Need-loop-again Inv-loop μ-loop Inv-pairs μ-pairs
 loop-again c =
     let k = c .before .before in
     let l = k .before .before in
-    (seek-pass (l .loop .inv .0) (omega arith) (k .check-pair-at .ensures) (c .enum-told2 .given .1), l .loop .inv .1)
+    (seek-pass (l .loop .inv .0) (omega arith) (k .check-pair-at .ensures) (c .enum-told2 .given .1), l .loop .inv .1, omega arith)
 
 add-i : tie.Need-add-i Inv-loop μ-loop Inv-pairs μ-pairs
 add-i c = omega arith

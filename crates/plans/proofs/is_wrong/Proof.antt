@@ -20,17 +20,17 @@ some-wrong true fault = refl
 some-wrong false true = refl
 some-wrong false false = refl
 
-is-inner-requires : tie.Need-is-inner-requires
-is-inner-requires c κs = search needs
+is-inner-fault-requires : tie.Need-is-inner-fault-requires
+is-inner-fault-requires c κs = search needs
 
 returns : tie.Need-returns
-returns c = rw (c .before .is-inner .ensures, c .if1 .taken) (none-wrong _)
+returns c = rw (c .before .is-inner-fault .ensures, c .if1 .taken) (none-wrong _)
 
 returns-2 : tie.Need-returns-2
 returns-2 c =
     let a = c .before .before .args in
-    rw (c .before .is-inner .ensures, ne-eqb _ _ (c .if1 .left))
+    rw (c .before .is-inner-fault .ensures, ne-eqb _ _ (c .if1 .left))
     (some-wrong (ltb 4 (a .d)) (inner-faulty (a .n) (a .m) (a .p) (a .mark)))
 
 pub is-wrong-spec : {M : Type 1} → statement M
-is-wrong-spec = tie.close (tie.spec is-inner-requires returns returns-2)
+is-wrong-spec = tie.close (tie.spec is-inner-fault-requires returns returns-2)

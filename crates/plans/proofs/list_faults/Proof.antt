@@ -21,11 +21,11 @@ abbrev μ-loop : tie.MeasureT-loop
 loop-holds : tie.Need-loop-holds Inv-loop μ-loop
 loop-holds c = collect-start _ _ _ (omega arith)
 
-is-inner-requires : tie.Need-is-inner-requires Inv-loop μ-loop
-is-inner-requires c κs = search needs
+shared-slice-read-is-inner-fault : tie.Need-shared-slice-read-is-inner-fault Inv-loop μ-loop
+shared-slice-read-is-inner-fault c = omega arith
 
-shared-slice-read-if1 : tie.Need-shared-slice-read-if1 Inv-loop μ-loop
-shared-slice-read-if1 c = omega arith
+is-inner-fault-requires : tie.Need-is-inner-fault-requires Inv-loop μ-loop
+is-inner-fault-requires c κs = search needs
 
 cast-out : tie.Need-cast-out Inv-loop μ-loop
 cast-out c = omega arith
@@ -48,7 +48,7 @@ loop-less c = omega arith
 loop-again : tie.Need-loop-again Inv-loop μ-loop
 loop-again c =
     let s = c .before .before .before .before .loop .inv in
-    let e = c .before .before .is-inner .ensures in
+    let e = c .before .is-inner-fault .ensures in
     ⊎-elim
     (λ w. rw (w .1, w .2) (collect-take s _ (omega arith) (rw e at (w .0 .taken)) refl))
     (λ w. rw (w .1, w .2) (collect-skip s (omega arith) (rw e at (w .0 .left))))
@@ -70,8 +70,8 @@ list-faults-spec =
     Inv-loop
     μ-loop
     loop-holds
-    is-inner-requires
-    shared-slice-read-if1
+    shared-slice-read-is-inner-fault
+    is-inner-fault-requires
     cast-out
     mul-out
     slice-write-out

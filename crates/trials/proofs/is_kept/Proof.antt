@@ -2,8 +2,7 @@
 -- Assumes nothing.
 use Prim.Native.Nat.{_-_, _<_}
 use lib.ListN.{getD}
-use Rattle.paths.specs.Path.{is-open}
-use Rattle.trials.specs.Search.{clear}
+use Rattle.paths.specs.Path.{is-open, clear}
 use Rattle.trials.proofs.Testing.{Testing, start-at, test-shut, test-start, test-clash, test-next, test-end}
 use native.Mathlib.Omega.{arith}
 use Rattle.trials.proofs.is_kept.Statement.{statement}
@@ -38,20 +37,20 @@ loop-holds c = test-start _ _ _ _ _ _ (c .before .is-open .ensures) (c .if1 .lef
 sub-j : tie.Need-sub-j Inv-loop μ-loop
 sub-j c = omega arith
 
-mul-is-clear : tie.Need-mul-is-clear Inv-loop μ-loop
-mul-is-clear c = omega arith
+mul-are-clear : tie.Need-mul-are-clear Inv-loop μ-loop
+mul-are-clear c = omega arith
 
-shared-slice-read-is-clear : tie.Need-shared-slice-read-is-clear Inv-loop μ-loop
-shared-slice-read-is-clear c = omega arith
+shared-slice-read-are-clear : tie.Need-shared-slice-read-are-clear Inv-loop μ-loop
+shared-slice-read-are-clear c = omega arith
 
-cast-is-clear : tie.Need-cast-is-clear Inv-loop μ-loop
-cast-is-clear c = omega (arith, c .shared-slice-known5 .given (c .before .before .loop .j - 1))
+cast-are-clear : tie.Need-cast-are-clear Inv-loop μ-loop
+cast-are-clear c = omega (arith, c .shared-slice-known5 .given (c .before .before .loop .j - 1))
 
-shared-slice-read-is-clear-2 : tie.Need-shared-slice-read-is-clear-2 Inv-loop μ-loop
-shared-slice-read-is-clear-2 c = omega arith
+shared-slice-read-are-clear-2 : tie.Need-shared-slice-read-are-clear-2 Inv-loop μ-loop
+shared-slice-read-are-clear-2 c = omega arith
 
-is-clear-requires : tie.Need-is-clear-requires Inv-loop μ-loop
-is-clear-requires c κs =
+are-clear-requires : tie.Need-are-clear-requires Inv-loop μ-loop
+are-clear-requires c κs =
     let l = c .before .before .before in
     let s = l .before .before .before .before .before .before .before in
     let j = l .loop .j - 1 in
@@ -60,12 +59,13 @@ is-clear-requires c κs =
     let e = s .pre .2 j (omega arith) in (
       start-at (s .pre .0) j (getD (s .args .chosen .now) j 0) (omega arith) (e .0) (e .1),
       start-at (s .pre .0) (s .args .k) (s .args .d) (s .pre .1) (s .pre .3) (s .pre .4),
+      λ z. omega (arith, z, s .pre .0 .ascend j (s .args .k) (omega arith) (s .pre .1)),
     )
 
 returns-2 : tie.Need-returns-2 Inv-loop μ-loop
 returns-2 c =
     let v = c .before .before .before .before .before .loop .inv in
-    test-clash _ _ _ _ _ _ v (omega arith) (c .before .is-clear .ensures) (c .if2 .taken)
+    test-clash _ _ _ _ _ _ v (omega arith) (c .before .are-clear .ensures) (c .if2 .taken)
 
 loop-less : tie.Need-loop-less Inv-loop μ-loop
 loop-less c = omega arith
@@ -73,7 +73,7 @@ loop-less c = omega arith
 loop-again : tie.Need-loop-again Inv-loop μ-loop
 loop-again c =
     let v = c .before .before .before .before .before .loop .inv in
-    test-next _ _ _ _ _ _ v (omega arith) (c .before .is-clear .ensures) (c .if2 .left)
+    test-next _ _ _ _ _ _ v (omega arith) (c .before .are-clear .ensures) (c .if2 .left)
 
 returns-3 : tie.Need-returns-3 Inv-loop μ-loop
 returns-3 c = test-end _ _ _ _ _ _ _ (c .before .loop .inv) (omega arith)
@@ -91,11 +91,11 @@ is-kept-spec =
     returns
     loop-holds
     sub-j
-    mul-is-clear
-    shared-slice-read-is-clear
-    cast-is-clear
-    shared-slice-read-is-clear-2
-    is-clear-requires
+    mul-are-clear
+    shared-slice-read-are-clear
+    cast-are-clear
+    shared-slice-read-are-clear-2
+    are-clear-requires
     returns-2
     loop-less
     loop-again

@@ -11,29 +11,29 @@ use lib.Dec.{eqb}
 use lib.ListN.{length, getD}
 use lib.Seq.{ext-getD}
 use Rattle.array.specs.Buffer.{buffer}
-use Rattle.array.specs.Map.{inner-faulty, inner-fault}
+use Rattle.array.specs.Map.{inner-fault}
 use Rattle.array.proofs.Fills.{tabulate-at, tabulate-length}
-use Rattle.array.proofs.Positions.{positions-rise}
 use Rattle.plans.specs.Faults.{faults, directions-at, paired}
 use Rattle.plans.proofs.Pairing.{directions-length, direction-at}
-use Rattle.plans.proofs.Facts.{fault-hit, hit-inner-fault}
+use Rattle.plans.proofs.Facts.{fault-hit}
+use Rattle.plans.proofs.ByPosition.{faults-list}
 use Rattle.trials.specs.Search.{direction-of}
 
--- the direction at a position that is one of the list's, where the list rises
-direction-there : (ps xs : List ℕ) (k : ℕ) → length xs ≡ length ps → ((i j : ℕ) → i < j → j < length ps → getD ps i 0 < getD ps j 0)
+-- the direction at a position that is one of the list's, where none stands twice
+pub direction-there : (ps xs : List ℕ) (k : ℕ) → length xs ≡ length ps
+    → ((i j : ℕ) → i < j → j < length ps → getD ps i 0 ≡ getD ps j 0 → ⊥)
     → k < length ps → direction-of (paired ps xs) (getD ps k 0) ≡ getD xs k 0
 unfolding direction-of paired
-direction-there [] xs k e up h = absurd (not-suc-le-zero h)
-direction-there (p ∷ ps) [] k e up h = absurd (omega arith)
-direction-there (p ∷ ps) (x ∷ xs) zero e up h = rw (eq-eqb p p refl)
-direction-there (p ∷ ps) (x ∷ xs) (suc k) e up h =
-    let u : p < getD ps k 0 = up 0 (suc k) (omega arith) h in
-    let q : eqb (getD ps k 0) p ≡ false = ne-eqb (getD ps k 0) p (λ z. omega arith) in
+direction-there [] xs k e once h = absurd (not-suc-le-zero h)
+direction-there (p ∷ ps) [] k e once h = absurd (omega arith)
+direction-there (p ∷ ps) (x ∷ xs) zero e once h = rw (eq-eqb p p refl)
+direction-there (p ∷ ps) (x ∷ xs) (suc k) e once h =
+    let q : eqb (getD ps k 0) p ≡ false = ne-eqb (getD ps k 0) p (λ z. once 0 (suc k) (omega arith) h (sym z)) in
     rw q
-    (direction-there ps xs k (omega arith) (λ i j l m. up (suc i) (suc j) (omega arith) (omega arith)) (le-of-suc-le-suc h))
+    (direction-there ps xs k (omega arith) (λ i j l m. once (suc i) (suc j) (omega arith) (omega arith)) (le-of-suc-le-suc h))
 
 -- and at one that is none of them
-direction-nowhere : (ps xs : List ℕ) (p : ℕ) → ((k : ℕ) → k < length ps → getD ps k 0 ≡ p → ⊥) → direction-of (paired ps xs) p ≡ 0
+pub direction-nowhere : (ps xs : List ℕ) (p : ℕ) → ((k : ℕ) → k < length ps → getD ps k 0 ≡ p → ⊥) → direction-of (paired ps xs) p ≡ 0
 unfolding direction-of paired
 direction-nowhere [] xs p none = refl
 direction-nowhere (q ∷ ps) [] p none = refl
@@ -48,10 +48,6 @@ module _ (n m : ℕ) (grid xs : List ℕ) (long : length grid ≡ 1024) (one-eac
   start-below : (k : ℕ) → k < length (faults n m grid) → getD (faults n m grid) k 0 < 1024
   start-below k h = omega (arith, fault-hit n m grid k h .below)
 
-  faults-rise : (i j : ℕ) → i < j → j < length (faults n m grid) → getD (faults n m grid) i 0 < getD (faults n m grid) j 0
-  unfolding faults
-  faults-rise i j h l = positions-rise (inner-faulty n m) grid i j h l
-
   -- read at the faults, the buffer gives the plan again
   pub paths-again : directions-at held (faults n m grid) ≡ xs
   paths-again =
@@ -60,15 +56,14 @@ module _ (n m : ℕ) (grid xs : List ℕ) (long : length grid ≡ 1024) (one-eac
       let l : k < length (faults n m grid) = omega (arith, h, directions-length held (faults n m grid)) in
       direction-at held (faults n m grid) k l
       ∙ tabulate-at (direction-of (paired (faults n m grid) xs)) 1024 (getD (faults n m grid) k 0) 0 (start-below k l)
-      ∙ direction-there (faults n m grid) xs k one-each faults-rise l)
+      ∙ direction-there (faults n m grid) xs k one-each (faults-list n m grid .once) l)
 
   pub zero-elsewhere : (p : ℕ) → p < 1024 → inner-fault n m grid p ≡ false → getD held p 0 ≡ 0
   zero-elsewhere p h f =
       tabulate-at (direction-of (paired (faults n m grid) xs)) 1024 p 0 h
       ∙ direction-nowhere (faults n m grid) xs p
       (λ k l e.
-      let t = hit-inner-fault n m grid (getD (faults n m grid) k 0) (fault-hit n m grid k l) in
-      false≢true (sym f ∙ ap (inner-fault n m grid) (sym e) ∙ t))
+      false≢true (sym f ∙ ap (inner-fault n m grid) (sym e) ∙ faults-list n m grid .each k l))
 
   pub held-long : length held ≡ 1024
   held-long = tabulate-length (direction-of (paired (faults n m grid) xs)) 1024
