@@ -18,7 +18,7 @@ use Rattle.array.specs.declared.Verdict.the-variants.{Accepted}
 use Rattle.paths.specs.Path.{is-open, meet, near-miss, pair-test}
 use Rattle.plans.specs.Faults.{faults, directed-faults}
 use Rattle.plans.specs.Check.{wrong-direction, direction-test, directions-test, open-test, opens-test, clash-test, pairs-test, paths-test, plan-tests}
-use Rattle.plans.specs.FaultList.{lower, wrong-entry, entry-test, listed-test, check-fault-list}
+use Rattle.lists.specs.FaultList.{lower, wrong-entry, entry-test, listed-test, check-fault-list}
 use Rattle.plans.specs.declared.Fault.{Fault}
 use Rattle.track.specs.Letters.{across-exists, down-exists, switch-byte}
 use Rattle.track.specs.Ports.{Wafer}

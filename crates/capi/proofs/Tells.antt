@@ -13,7 +13,7 @@ use Rattle.array.specs.declared.Verdict.the-variants.{Accepted}
 use Rattle.trials.specs.Search.{planned, outcome}
 use Rattle.trials.specs.declared.Outcome.the-variants.{Repaired, Beyond, Spent}
 use Rattle.plans.specs.Check.{check-plan}
-use Rattle.plans.specs.FaultList.{check-fault-list}
+use Rattle.lists.specs.FaultList.{check-fault-list}
 use Rattle.track.specs.Ports.{Wafer}
 use Rattle.track.specs.declared.Followed.{Followed}
 use Rattle.repair.specs.Operations.{plan-repair, plan-repair-test, place-cells, route-switches, follow-link}

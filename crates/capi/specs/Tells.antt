@@ -8,7 +8,7 @@ use mathlib.Core.List.{List, [], _∷_}
 use lib.Dec.{eqb}
 use Rattle.array.specs.Tests.{Told, accepts, refuses}
 use Rattle.plans.specs.Check.{check-plan}
-use Rattle.plans.specs.FaultList.{check-fault-list}
+use Rattle.lists.specs.FaultList.{check-fault-list}
 use Rattle.plans.specs.declared.Fault.{Fault}
 use Rattle.track.specs.Ports.{Wafer}
 use Rattle.repair.specs.Operations.{plan-repair, place-cells, route-switches, follow-link}

@@ -10,7 +10,7 @@ use writers::FileWritten;
 ghost use mathlib.Core.Path.{_≡_};
 ghost use Rattle.formats.specs.Number.{number-at};
 ghost use Rattle.plans.specs.Check.{check-plan};
-ghost use Rattle.plans.specs.FaultList.{check-fault-list};
+ghost use Rattle.lists.specs.FaultList.{check-fault-list};
 ghost use Rattle.track.specs.Ports.{wafer};
 ghost use Rattle.repair.specs.Operations.{plan-repair, directions-after, place-cells, places-after, route-switches, across-after, down-after, follow-link};
 ghost use Rattle.runs.specs.Run.{given, Ran-as};
@@ -250,7 +250,7 @@ pub extern "C" fn chantspruce_check_fault_list(
 ) -> ChantspruceVerdict
     ensures { λ r. ⌜ r ≡ flat-verdict (check-fault-list n m (now (grid .entry)) (now (faults .entry))) ⌝ }
 {
-    flat_verdict(plans::list::check_fault_list(n, m, grid, faults))
+    flat_verdict(lists::check_fault_list(n, m, grid, faults))
 }
 
 #[no_mangle]

@@ -1,1 +1,6 @@
+pub mod Lists
+pub mod Gathering
+pub mod ListAccepts
+pub mod ListExamples
+pub mod Cells
 pub mod Fronts

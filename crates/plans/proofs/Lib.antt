@@ -4,8 +4,3 @@ pub mod ByPosition
 pub mod Planned
 pub mod Accepts
 pub mod Tested
-pub mod Lists
-pub mod Gathering
-pub mod ListAccepts
-pub mod ListExamples
-pub mod Cells

@@ -18,9 +18,7 @@ pub struct Fault {
     pub direction: u8,
 }
 
-// check_plan is for callers, and so is check_fault_list of list.rt; the other functions are inner parts.
-
-pub mod list; // the plan check of a slice of faults
+// check_plan is for callers; the other functions are inner parts.
 
 pub fn wide(x: u16) -> usize
     ensures { λ r. ⌜ r ≡ x ⌝ }
@@ -140,8 +138,8 @@ fn check_pairs(n: usize, m: usize, starts: &[u16], ds: &[u8]) -> Verdict
     found
 }
 
-// Tests 5 to 7 of these faults.
-fn check_paths(n: usize, m: usize, grid: &[u8], starts: &[u16], ds: &[u8]) -> Verdict
+// Inner part: tests 5 to 7 of these faults.
+pub fn check_paths(n: usize, m: usize, grid: &[u8], starts: &[u16], ds: &[u8]) -> Verdict
     requires { ⌜ Starts n m (now starts) (now ds) × (length (now grid) ≡ 1024) ⌝ }
     ensures { λ r. ⌜ r ≡ paths-test n m (now (grid .entry)) (paired (now (starts .entry)) (now (ds .entry))) ⌝ }
 {

@@ -14,7 +14,8 @@ use Rattle.array.specs.Tests.{refusal}
 use Rattle.array.specs.declared.Refusal.{Refusal}
 use Rattle.array.proofs.Bools.{and-true, by-bool, cond-taken, cond-left}
 use Rattle.array.proofs.Places.{inner-at-holds}
-use Rattle.array.proofs.Fills.{same-default, tabulate-length}
+use Rattle.array.proofs.Fills.{tabulate-length}
+use Rattle.array.proofs.Marks.{faulty-read}
 use Rattle.formats.specs.Number.{number-at, size-at, refused}
 use Rattle.formats.specs.Records.{healthy-grid, blank}
 use Rattle.formats.specs.declared.Number.{Number}
@@ -86,8 +87,8 @@ module _ (n m : ℕ) (small : (n ≤ 30) × (m ≤ 30)) (at x y next : ℕ) (b :
       (λ t.
       let l = stands-within Map n m x y t in
       cond-taken _ _ refl t
-      ∙ ap (λ (z : ℕ). cond (eqb z 1) (no-record 11 at b) (step.Next next, set b (position x y) 1))
-      (same-default b (position x y) 2 0 (omega arith))
+      ∙ ap (λ (z : Bool). cond z (no-record 11 at b) (step.Next next, set b (position x y) 1))
+      (faulty-read b (position x y) (omega arith))
       ∙ sym (cond-taken _ _ refl t))
       (λ t. cond-left _ _ refl t ∙ sym (cond-left _ _ refl t))
 

@@ -43,13 +43,13 @@ use Rattle.array.specs.declared.Verdict.{Verdict}
 use Rattle.array.proofs.Answers.{verdict-kept}
 use Rattle.array.proofs.Verdict as E
 use Rattle.array.proofs.Verdict.Laws as E′
-use Rattle.plans.specs.FaultList.{check-fault-list}
+use Rattle.lists.specs.FaultList.{check-fault-list}
 use Rattle.plans.specs.declared.Fault.{Fault}
 use Rattle.plans.proofs.Fault as T
-use Rattle.plans.proofs.list.check_fault_list as check-list
-use Rattle.plans.proofs.list.check_fault_list.Symbol as check-list-def
-use Rattle.plans.proofs.list.check_fault_list.Symbol.{name as #check-list}
-use Rattle.plans.proofs.list.check_fault_list.Met as check-list-thm
+use Rattle.lists.proofs.check_fault_list as check-list
+use Rattle.lists.proofs.check_fault_list.Symbol as check-list-def
+use Rattle.lists.proofs.check_fault_list.Symbol.{name as #check-list}
+use Rattle.lists.proofs.check_fault_list.Met as check-list-thm
 use Rattle.capi.specs.Flat.{flat-verdict}
 use Rattle.capi.specs.declared.ChantspruceVerdict.{ChantspruceVerdict}
 use Rattle.capi.proofs.Kept.{flat-kept}
@@ -195,5 +195,5 @@ chantspruce-check-fault-list-spec 𝓤 H 𝓜 𝓖 𝓡 =
     entered 𝓤 H (tripleOf 𝓤 H (𝓖 .A) f.signature (f.spec 𝓤 H (𝓖 .A) (𝓜 .mem) (𝓡 .run)))
     (tables 𝓤 H 𝓜 𝓡 code.env .C) (tables 𝓤 H 𝓜 𝓡 code.env .Λ) #check-fault-list code.function (code.unfolded 𝓤 H 𝓜 𝓡)
     (check-fault-list-meets 𝓤 H (𝓖 .A) (givenOf 𝓤 H 𝓜 𝓖) (𝓜 .mem) (𝓡 .run) (tablesOf 𝓤 H 𝓜 (tables 𝓤 H 𝓜 𝓡 code.env))
-    (cited 𝓤 H (Check 𝓤 H (𝓖 .A) (𝓜 .mem) (𝓡 .run)) 𝓜 𝓡 code.env #check-list check-list-def.routine code.calls-plans·list·check-fault-list (check-list-thm.met 𝓤 H 𝓜 𝓖 𝓡))
+    (cited 𝓤 H (Check 𝓤 H (𝓖 .A) (𝓜 .mem) (𝓡 .run)) 𝓜 𝓡 code.env #check-list check-list-def.routine code.calls-lists·check-fault-list (check-list-thm.met 𝓤 H 𝓜 𝓖 𝓡))
     (cited 𝓤 H (Flat 𝓤 H (𝓖 .A) (𝓜 .mem) (𝓡 .run)) 𝓜 𝓡 code.env #flat flat-def.routine code.calls-capi·flat-verdict (flat-thm.met 𝓤 H 𝓜 𝓖 𝓡)))

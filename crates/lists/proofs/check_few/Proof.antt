@@ -51,15 +51,15 @@ use Rattle.array.specs.Tests.{told}
 use Rattle.array.specs.declared.Verdict.{Verdict}
 use Rattle.array.proofs.Verdict as E
 use Rattle.array.proofs.Verdict.Laws as E′
-use Rattle.plans.specs.FaultList.{check-fault-list}
 use Rattle.plans.specs.declared.Fault.{Fault}
-use Rattle.plans.proofs.Cells.{array-out, array-in}
 use Rattle.plans.proofs.Fault as T
 use Rattle.plans.proofs.Fault.Laws as T′
-use Rattle.plans.proofs.list.check_fault_list as check-list
-use Rattle.plans.proofs.list.check_fault_list.Symbol as check-list-def
-use Rattle.plans.proofs.list.check_fault_list.Symbol.{name as #check-list}
-use Rattle.plans.proofs.list.check_fault_list.Met as check-list-thm
+use Rattle.lists.specs.FaultList.{check-fault-list}
+use Rattle.lists.proofs.Cells.{array-out, array-in}
+use Rattle.lists.proofs.check_fault_list as check-list
+use Rattle.lists.proofs.check_fault_list.Symbol as check-list-def
+use Rattle.lists.proofs.check_fault_list.Symbol.{name as #check-list}
+use Rattle.lists.proofs.check_fault_list.Met as check-list-thm
 use Rattle.lists.proofs.Fronts.{Front, Others, front-out, front-in}
 use Rattle.lists.proofs.check_few.Key.{name as #check-few}
 use Rattle.lists.proofs.check_few as f
@@ -238,4 +238,4 @@ check-few-spec 𝓤 H 𝓜 𝓖 𝓡 =
     entered 𝓤 H (tripleOf 𝓤 H (𝓖 .A) f.signature (f.spec 𝓤 H (𝓖 .A) (𝓜 .mem) (𝓡 .run)))
     (tables 𝓤 H 𝓜 𝓡 code.env .C) (tables 𝓤 H 𝓜 𝓡 code.env .Λ) #check-few code.function (code.unfolded 𝓤 H 𝓜 𝓡)
     (check-few-meets 𝓤 H (𝓖 .A) (givenOf 𝓤 H 𝓜 𝓖) (𝓜 .mem) (𝓡 .run) (tablesOf 𝓤 H 𝓜 (tables 𝓤 H 𝓜 𝓡 code.env))
-    (cited 𝓤 H (Check 𝓤 H (𝓖 .A) (𝓜 .mem) (𝓡 .run)) 𝓜 𝓡 code.env #check-list check-list-def.routine code.calls-plans·list·check-fault-list (check-list-thm.met 𝓤 H 𝓜 𝓖 𝓡)))
+    (cited 𝓤 H (Check 𝓤 H (𝓖 .A) (𝓜 .mem) (𝓡 .run)) 𝓜 𝓡 code.env #check-list check-list-def.routine code.calls-lists·check-fault-list (check-list-thm.met 𝓤 H 𝓜 𝓖 𝓡)))

@@ -8,10 +8,10 @@ use native.Mathlib.Omega.{arith}
 use lib.ListN.{length, getD, set, take, length-set}
 use lib.Seq.{take-all, take-suc, take-suc-set, length-take-le}
 use Rattle.array.proofs.Bools.{by-lt}
 use Rattle.plans.specs.Faults.{fault, paired}
-use Rattle.plans.specs.FaultList.{lower, held}
 use Rattle.plans.specs.declared.Fault.{Fault}
-use Rattle.plans.proofs.Lists.{lower-left, lower-right}
+use Rattle.lists.specs.FaultList.{lower, held}
+use Rattle.lists.proofs.Lists.{lower-left, lower-right}
 
 paired-snoc : (ps ds : List ℕ) (p d : ℕ) → length ds ≡ length ps
     → paired (ps ++ (p ∷ [])) (ds ++ (d ∷ [])) ≡ paired ps ds ++ (fault p d ∷ [])

@@ -1,4 +1,4 @@
--- `plans::list::check_fault_list` meets its contract: a walk of its MIR by hand, since the borrow checker covers no slice of structs.
+-- `lists::check_fault_list` meets its contract: a walk of its MIR by hand, since the borrow checker covers no slice of structs.
 -- The loop stores each fault's position and direction in two local arrays, which lie in memory by their elements; `check_gathered` does the rest.
 -- Assumes nothing.
 use mathlib.Core.Path.{_≡_, refl, sym, ap, _∙_}
@@ -56,27 +56,27 @@ use Rattle.array.specs.Tests.{told}
 use Rattle.array.specs.declared.Verdict.{Verdict}
 use Rattle.array.proofs.Verdict as E
 use Rattle.array.proofs.Verdict.Laws as E′
 use Rattle.plans.specs.Faults.{fault}
-use Rattle.plans.specs.FaultList.{lower, held, check-fault-list}
 use Rattle.plans.specs.declared.Fault.{Fault}
-use Rattle.plans.proofs.Lists.{Lower, lower-is, check-take}
-use Rattle.plans.proofs.Gathering.{Gathering, gather-start, gather-turn, gather-end}
-use Rattle.plans.proofs.Cells.{array-out, array-in, big-lit}
 use Rattle.plans.proofs.Fault as T
 use Rattle.plans.proofs.Fault.Laws as T′
-use Rattle.plans.proofs.list.lower_of as lower-of
-use Rattle.plans.proofs.list.lower_of.Symbol as lower-of-def
-use Rattle.plans.proofs.list.lower_of.Symbol.{name as #lower-of}
-use Rattle.plans.proofs.list.lower_of.Met as lower-of-thm
-use Rattle.plans.proofs.list.check_gathered as check-gathered
-use Rattle.plans.proofs.list.check_gathered.Symbol as check-gathered-def
-use Rattle.plans.proofs.list.check_gathered.Symbol.{name as #check-gathered}
-use Rattle.plans.proofs.list.check_gathered.Met as check-gathered-thm
-use Rattle.plans.proofs.list.check_fault_list.Key.{name as #check-fault-list}
-use Rattle.plans.proofs.list.check_fault_list as f
-use Rattle.plans.proofs.list.check_fault_list.Statement as stated
-use Rattle.plans.proofs.list.check_fault_list.Code as code
-use Rattle.plans.proofs.list.check_fault_list.Code.Mir as mir′
+use Rattle.lists.specs.FaultList.{lower, held, check-fault-list}
+use Rattle.lists.proofs.Lists.{Lower, lower-is, check-take}
+use Rattle.lists.proofs.Gathering.{Gathering, gather-start, gather-turn, gather-end}
+use Rattle.lists.proofs.Cells.{array-out, array-in, big-lit}
+use Rattle.lists.proofs.lower_of as lower-of
+use Rattle.lists.proofs.lower_of.Symbol as lower-of-def
+use Rattle.lists.proofs.lower_of.Symbol.{name as #lower-of}
+use Rattle.lists.proofs.lower_of.Met as lower-of-thm
+use Rattle.lists.proofs.check_gathered as check-gathered
+use Rattle.lists.proofs.check_gathered.Symbol as check-gathered-def
+use Rattle.lists.proofs.check_gathered.Symbol.{name as #check-gathered}
+use Rattle.lists.proofs.check_gathered.Met as check-gathered-thm
+use Rattle.lists.proofs.check_fault_list.Key.{name as #check-fault-list}
+use Rattle.lists.proofs.check_fault_list as f
+use Rattle.lists.proofs.check_fault_list.Statement as stated
+use Rattle.lists.proofs.check_fault_list.Code as code
+use Rattle.lists.proofs.check_fault_list.Code.Mir as mir′
 
 abbrev stayed : Stays (f.ended .signature .params) (f.ended .kept)
 stayed = (stay-none (λ _. usize) kept, (stay-none (λ _. usize) kept, (stay-none-slice (0 ∷ []) tt (plain (λ _. u8)) kept, (stay-none-slice (1 ∷ []) tt (plain (λ _. T.the-row)) kept, tt))))
@@ -398,5 +398,5 @@ check-fault-list-spec 𝓤 H 𝓜 𝓖 𝓡 =
     entered 𝓤 H (tripleOf 𝓤 H (𝓖 .A) f.signature (f.spec 𝓤 H (𝓖 .A) (𝓜 .mem) (𝓡 .run)))
     (tables 𝓤 H 𝓜 𝓡 code.env .C) (tables 𝓤 H 𝓜 𝓡 code.env .Λ) #check-fault-list code.function (code.unfolded 𝓤 H 𝓜 𝓡)
     (check-fault-list-meets 𝓤 H (𝓖 .A) (givenOf 𝓤 H 𝓜 𝓖) (𝓜 .mem) (𝓡 .run) (tablesOf 𝓤 H 𝓜 (tables 𝓤 H 𝓜 𝓡 code.env))
-    (cited 𝓤 H (Least 𝓤 H (𝓖 .A) (𝓜 .mem) (𝓡 .run)) 𝓜 𝓡 code.env #lower-of lower-of-def.routine code.calls-plans·list·lower-of (lower-of-thm.met 𝓤 H 𝓜 𝓖 𝓡))
-    (cited 𝓤 H (Check 𝓤 H (𝓖 .A) (𝓜 .mem) (𝓡 .run)) 𝓜 𝓡 code.env #check-gathered check-gathered-def.routine code.calls-plans·list·check-gathered (check-gathered-thm.met 𝓤 H 𝓜 𝓖 𝓡)))
+    (cited 𝓤 H (Least 𝓤 H (𝓖 .A) (𝓜 .mem) (𝓡 .run)) 𝓜 𝓡 code.env #lower-of lower-of-def.routine code.calls-lists·lower-of (lower-of-thm.met 𝓤 H 𝓜 𝓖 𝓡))
+    (cited 𝓤 H (Check 𝓤 H (𝓖 .A) (𝓜 .mem) (𝓡 .run)) 𝓜 𝓡 code.env #check-gathered check-gathered-def.routine code.calls-lists·check-gathered (check-gathered-thm.met 𝓤 H 𝓜 𝓖 𝓡)))

@@ -14,15 +14,15 @@ use Rattle.array.specs.declared.Verdict.{Verdict}
 use Rattle.array.specs.declared.Verdict.the-variants.{Accepted}
 use Rattle.array.proofs.Verdicts.{both-accepted, accept-both}
 use Rattle.array.proofs.Formed.{formed, formed-lent, grid-and}
 use Rattle.plans.specs.Faults.{faults, directions-at, paired, directed-faults}
 use Rattle.plans.specs.Plan.{Choice}
 use Rattle.plans.specs.Check.{paths-test, plan-tests}
 use Rattle.plans.specs.Inner.{Starts}
-use Rattle.plans.specs.FaultList.{listed-test, check-fault-list, List-check-agrees, directions-of, positions-of, Lists-plan, Accepts-lists}
 use Rattle.plans.specs.declared.Fault.{Fault}
 use Rattle.plans.proofs.Facts.{fault-starts}
 use Rattle.plans.proofs.Planned.{paths-plan, plan-paths}
-use Rattle.plans.proofs.Lists.{listed-positions, listed-straight, straight-listed, directions-as-many, paired-of}
+use Rattle.lists.specs.FaultList.{listed-test, check-fault-list, List-check-agrees, directions-of, positions-of, Lists-plan, Accepts-lists}
+use Rattle.lists.proofs.Lists.{listed-positions, listed-straight, straight-listed, directions-as-many, paired-of}
 
 passed : {a b : Verdict} (v : Verdict) → a ≡ Accepted → b ≡ Accepted → or-else a (or-else b v) ≡ v
 passed v h g = rw (h, g)

@@ -1,13 +1,13 @@
--- `plans::list::check_entry` meets its contract: the code's test is the definition's.
+-- `lists::check_entry` meets its contract: the code's test is the definition's.
 -- Assumes nothing.
 use mathlib.Core.Path.{sym, ap, _∙_}
 use mathlib.Core.Bool.{Bool}
 use Prim.Native.Nat.{ℕ}
 use Rattle.array.specs.Tests.{refuse, refuse-if}
-use Rattle.plans.specs.FaultList.{lower}
+use Rattle.lists.specs.FaultList.{lower}
 use borrow.Author.Needs.{needs}
-use Rattle.plans.proofs.list.check_entry.Statement.{statement}
-use Rattle.plans.proofs.list.check_entry.Tie as tie
+use Rattle.lists.proofs.check_entry.Statement.{statement}
+use Rattle.lists.proofs.check_entry.Tie as tie
 
 lower-of-requires : tie.Need-lower-of-requires
 lower-of-requires c κs = search needs

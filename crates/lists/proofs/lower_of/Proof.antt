@@ -1,9 +1,9 @@
--- `plans::list::lower_of` meets its contract: the branch taken.
+-- `lists::lower_of` meets its contract: the branch taken.
 -- Assumes nothing.
 use mathlib.Core.Path.{sym}
-use Rattle.plans.proofs.Lists.{lower-left, lower-right}
-use Rattle.plans.proofs.list.lower_of.Statement.{statement}
-use Rattle.plans.proofs.list.lower_of.Tie as tie
+use Rattle.lists.proofs.Lists.{lower-left, lower-right}
+use Rattle.lists.proofs.lower_of.Statement.{statement}
+use Rattle.lists.proofs.lower_of.Tie as tie
 
 returns : tie.Need-returns
 returns c = sym (lower-left _ _ (c .if1 .taken))

@@ -1,4 +1,4 @@
--- `plans::list::check_entries` meets its contract: what is left of both lists gives the whole answer.
+-- `lists::check_entries` meets its contract: what is left of both lists gives the whole answer.
 -- Assumes nothing.
 use mathlib.Core.Path.{_≡_, refl, sym, ap, _∙_}
 use mathlib.Core.List.{List}
@@ -7,15 +7,15 @@ use lib.ListN.{length, getD}
 use denote.Ref.{now}
 use Rattle.array.specs.Tests.{or-else, refuse}
 use Rattle.array.specs.declared.Verdict.{Verdict}
 use Rattle.plans.specs.Faults.{fault, paired}
-use Rattle.plans.specs.FaultList.{entry-test, listed-test}
 use Rattle.plans.specs.declared.Fault.{Fault}
 use Rattle.plans.proofs.Pairing.{fault-at, paired-length, paired-at}
-use Rattle.plans.proofs.Lists.{Lower, lower-is, listed-from, listed-turn, listed-missing, listed-beyond, listed-end}
+use Rattle.lists.specs.FaultList.{entry-test, listed-test}
+use Rattle.lists.proofs.Lists.{Lower, lower-is, listed-from, listed-turn, listed-missing, listed-beyond, listed-end}
 use native.Mathlib.Omega.{arith}
 use borrow.Author.Needs.{needs}
-use Rattle.plans.proofs.list.check_entries.Statement.{statement}
-use Rattle.plans.proofs.list.check_entries.Tie as tie
+use Rattle.lists.proofs.check_entries.Statement.{statement}
+use Rattle.lists.proofs.check_entries.Tie as tie
 
 abbrev Inv-loop : tie.InvT-loop
 Inv-loop starts positions ds count listed both k₀ k =

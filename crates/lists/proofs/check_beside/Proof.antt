@@ -1,4 +1,4 @@
--- `plans::list::check_beside` meets its contract: the tests in order.
+-- `lists::check_beside` meets its contract: the tests in order.
 -- Assumes nothing.
 use mathlib.Core.Path.{_≡_, sym, ap, subst, _∙_}
 use mathlib.Core.List.{List}
@@ -6,15 +6,15 @@ use Prim.Native.Nat.{ℕ}
 use denote.Ref.{now}
 use Rattle.array.specs.declared.Verdict.the-variants.{Accepted}
 use Rattle.array.proofs.Verdicts.{verdict-stops, verdict-passes}
 use Rattle.plans.specs.Faults.{faults, paired}
 use Rattle.plans.specs.Check.{paths-test}
 use Rattle.plans.specs.Inner.{Starts}
-use Rattle.plans.specs.FaultList.{listed-test}
 use Rattle.plans.specs.declared.Fault.{Fault}
-use Rattle.plans.proofs.Lists.{listed-positions, list-starts, of-paired}
+use Rattle.lists.specs.FaultList.{listed-test}
+use Rattle.lists.proofs.Lists.{listed-positions, list-starts, of-paired}
 use borrow.Author.Needs.{needs}
-use Rattle.plans.proofs.list.check_beside.Statement.{statement}
-use Rattle.plans.proofs.list.check_beside.Tie as tie
+use Rattle.lists.proofs.check_beside.Statement.{statement}
+use Rattle.lists.proofs.check_beside.Tie as tie
 
 abbrev start : tie.After-check-entries → tie.Start
 start e = e .before .before .before .before .before

@@ -10,9 +10,9 @@ use Rattle.array.specs.Buffer.{buffer}
 use Rattle.array.specs.Place.{processor}
 use Rattle.array.specs.declared.Verdict.{Verdict}
 use Rattle.array.specs.declared.Verdict.the-variants.{Accepted}
 use Rattle.plans.specs.Faults.{fault}
-use Rattle.plans.specs.FaultList.{check-fault-list}
 use Rattle.plans.specs.declared.Fault.{Fault}
+use Rattle.lists.specs.FaultList.{check-fault-list}
 
 abbrev mark : ℕ → ℕ
 mark p = cond (processor 2 2 p) (cond (eqb p 33 || eqb p 66) 1 0) 2

@@ -1,4 +1,4 @@
--- `plans::list::check_gathered` meets its contract: the tests in order, over the parts of the arrays that hold the faults.
+-- `lists::check_gathered` meets its contract: the tests in order, over the parts of the arrays that hold the faults.
 -- Assumes nothing.
 use mathlib.Core.Path.{_≡_, refl, sym, ap, _∙_}
 use mathlib.Core.Bool.{Bool}
@@ -11,10 +11,10 @@ use Rattle.array.specs.Map.{map-tests, well-formed}
 use Rattle.array.proofs.Bools.{and-one}
 use Rattle.array.proofs.Verdicts.{verdict-stops, verdict-passes}
 use Rattle.array.proofs.Formed.{Formed, formed}
-use Rattle.plans.specs.FaultList.{check-fault-list}
+use Rattle.lists.specs.FaultList.{check-fault-list}
 use borrow.Author.Needs.{needs}
-use Rattle.plans.proofs.list.check_gathered.Statement.{statement}
-use Rattle.plans.proofs.list.check_gathered.Tie as tie
+use Rattle.lists.proofs.check_gathered.Statement.{statement}
+use Rattle.lists.proofs.check_gathered.Tie as tie
 
 -- the parts have `count` elements
 positions-long : (s : tie.Start) → length (take (s .args .count) (s .args .t4)) ≡ s .args .count

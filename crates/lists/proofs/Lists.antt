@@ -20,12 +20,12 @@ use Rattle.array.proofs.Bools.{and-true, or-false, by-lt}
 use Rattle.array.proofs.Places.{inner-holds}
 use Rattle.array.proofs.Verdicts.{both-accepted, accept-both, accepted-false, false-accepted}
 use Rattle.array.proofs.Formed.{formed}
 use Rattle.plans.specs.Faults.{faults, fault, paired}
 use Rattle.plans.specs.Check.{paths-test}
 use Rattle.plans.specs.Inner.{Starts}
-use Rattle.plans.specs.FaultList.{lower, wrong-entry, entry-test, listed-test, check-fault-list, positions-of, directions-of}
 use Rattle.plans.specs.declared.Fault.{Fault}
 use Rattle.plans.proofs.Facts.{fault-hit, faults-rise}
+use Rattle.lists.specs.FaultList.{lower, wrong-entry, entry-test, listed-test, check-fault-list, positions-of, directions-of}
 
 -- r is the lower of p and q
 pub record Lower (p q r : ℕ) : Type 0 where
