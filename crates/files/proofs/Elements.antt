@@ -63,6 +63,7 @@ module _ (n m p v : ℕ) where
       }
 
   pub unkept : (kind : Kind) → element-test kind n m p v ≡ Accepted → recorded kind p v ≡ false → blank-mark kind n m p ≡ v
+  unfolding faulty-mark
   unkept Map h t = no-fault (accepted-not (allowed n m p v) 3 p 0 h) (eqb-false v 1 t)
   unkept Plan h t = sym (eqb-true v 0 (not-false (eqb v 0) t))
 

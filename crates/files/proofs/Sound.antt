@@ -12,7 +12,7 @@ use lib.Seq.{getD-set-same, getD-set-other}
 use borrow.Author.Tests.{leb-true, le-leb, eqb-true, le-ltb, eq-eqb, ne-eqb}
 use Rattle.array.specs.Place.{row, column, position, size, processor, inner}
 use Rattle.array.specs.Buffer.{span, buffer, positions-along}
-use Rattle.array.specs.Map.{allowed}
+use Rattle.array.specs.Map.{faulty-mark, allowed}
 use Rattle.array.specs.declared.Refusal.{Refusal}
 use Rattle.array.specs.declared.Verdict.the-variants.{Accepted}
 use Rattle.array.proofs.Bools.{by-bool, by-eq, by-lt, and-true, and-both, and-none, cond-taken, cond-left}
@@ -70,10 +70,12 @@ blank-passes Plan n m p =
     false-accepted 4 p 0 (and-none (not (inner n m p)))
 
 blank-free : (kind : Kind) (n m p : ℕ) → recorded kind p (blank-mark kind n m p) ≡ false
+unfolding faulty-mark
 blank-free Map n m p = by-bool (processor n m p) (λ t. rw t refl) (λ t. rw t refl)
 blank-free Plan n m p = refl
 
 value-recorded : (kind : Kind) (p v : ℕ) → is-value kind v ≡ true → recorded kind p v ≡ true
+unfolding faulty-mark
 value-recorded Map p v t = t
 value-recorded Plan p v t =
     let l : 1 ≤ v = leb-true 1 v (and-true (leb 1 v) (leb v 4) t .0) in
