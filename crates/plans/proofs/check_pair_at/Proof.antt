@@ -34,8 +34,7 @@ check-pair-requires c κs =
     let v = c .before in
     let w = v .before .before .before in
     let s = w .before .before .before .before in
-    let a = s .args in
-    (
+    let a = s .args in (
       rw (w .wide .ensures) (s .pre .0 .each (a .i) (omega (arith, s .pre .1, s .pre .2))),
       rw (v .wide2 .ensures) (s .pre .0 .each (a .j) (s .pre .2)),
       rw (w .wide .ensures, v .wide2 .ensures) (λ e. omega (arith, e, s .pre .0 .ascend (a .i) (a .j) (s .pre .1) (s .pre .2))),
