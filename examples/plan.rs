@@ -1,4 +1,4 @@
-//! Plans the repair of a map file by the Rust wrapper, tests/rust/chantspruce.rs: prints the outcome, and where each path goes.
+//! Plans the repair of a map file by the Rust wrapper, rust/chantspruce.rs: prints the outcome, and where each path goes.
 
 use chantspruce::{BUFFER, Outcome, direction, plan_repair, read_map};
 use std::error::Error;

@@ -1,7 +1,7 @@
 //! How fast the library is beside the same algorithms in Rust (same.rs), both measured in one run. Prints a line for each measurement: its name,
 //! the library's microseconds a call and, where it is compared, Rust's, by tabs; `run` makes ratios of them.
 
-#[path = "../rust/chantspruce.rs"]
+#[path = "../../rust/chantspruce.rs"]
 #[allow(dead_code)]
 mod chantspruce;
 mod same;

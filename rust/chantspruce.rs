@@ -1,8 +1,14 @@
 //! Chantspruce for Rust: the proved repair planner behind functions that are safe to call with slices of any length and numbers of any value.
 //!
-//! `rt staticlib capi` writes `target/staticlib/libcapi.a`, and
-//! `rustc -O --edition 2024 --crate-type rlib chantspruce.rs -L native=target/staticlib` makes a crate that holds it. The file needs only `core`
-//! and can be a module of another crate as well.
+//! To use it, prove and build the library, which writes `target/staticlib/libcapi.a`, and make a crate of this file that holds the library:
+//!
+//! ```text
+//! rt staticlib capi
+//! rustc -O --edition 2024 --crate-type rlib -L native=target/staticlib --out-dir target rust/chantspruce.rs
+//! ```
+//!
+//! A program is then built with `--extern chantspruce=target/libchantspruce.rlib`; `examples/plan.rs` is one. The file needs only `core` and can
+//! be a module of another crate instead, which is then built with `-L native=target/staticlib`.
 //!
 //! Every buffer except file bytes, listings and lists of faults has [`BUFFER`] elements, indexed by position: 32 times the row, plus the column.
 //! An accepted call returns `Ok` and fills the buffers lent to it. A refused one returns a [`Refusal`] and leaves them as they were. No function panics.
