@@ -51,3 +51,39 @@ print() {
         exit 1
     fi
 }
+
+# `meaning NUMBER PLACE SECOND` prints in words where and why a call is refused. The place of a file's refusal is a byte, counted from 0; other
+# places are positions, 32 times the row plus the column.
+meaning() {
+    here="row $(($2 / 32)), column $(($2 % 32))"
+    both="$here and row $(($3 / 32)), column $(($3 % 32))"
+    case $1 in
+        1) echo "byte $2: the number of rows or columns is not 1 to 30" ;;
+        2) echo "a buffer does not have 1,024 elements" ;;
+        3) echo "$here: a mark that cannot stand there" ;;
+        4) echo "$here: a direction that cannot stand there, or none where a path must start" ;;
+        5) echo "$here: the path from there runs over another fault or ends on a faulty spare" ;;
+        6) echo "$both: the paths from there share a processor" ;;
+        7) echo "$both: the paths from there are a near-miss" ;;
+        8) echo "byte $2: the file ends early" ;;
+        9) echo "byte $2: a number is longer than two bytes or not in its shortest form" ;;
+        10) echo "byte $2: a fault is where no processor is, or a path starts where none may" ;;
+        11) echo "byte $2: a place is listed a second time" ;;
+        12) echo "byte $2: bytes follow the last record" ;;
+        13) echo "byte $2: a direction is not 1 to 4" ;;
+        14) echo "what is to be written needs room for $2 bytes" ;;
+        15) echo "there is no such cell or no such side" ;;
+        16) echo "$here: a switch letter that cannot stand there" ;;
+        17) echo "$here: the track ends there" ;;
+        18) echo "$here: the link would enter a fourth switch there" ;;
+        *) echo "place $2: a reason that this script does not know" ;;
+    esac
+}
+
+# `tell_refusal SCRIPT FILE TEXT` tells in words on standard error why a file is no map, where a program's text says that it is refused.
+tell_refusal() {
+    refusal=$(printf '%s\n' "$3" | sed -n 's/.*refused \([0-9]*\)\( at byte\)\{0,1\} \([0-9]*\).*/\1 \3/p')
+    if [ -n "$refusal" ]; then
+        echo "bin/$1: '$2' is no map file: $(meaning "${refusal% *}" "${refusal#* }" 0) (refusal ${refusal% *})" >&2
+    fi
+}
