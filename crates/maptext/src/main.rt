@@ -12,27 +12,12 @@ fn say(words: &[u8]) {
     io::write_all(STDERR_FILENO, words);
 }
 
-// Tells what the number of a refused map file means.
-fn say_meaning(number: u8) {
-    match number {
-        1 => say(b"N or M is not from 1 to 30"),
-        8 => say(b"the file ends early"),
-        9 => say(b"a number is too long, or not in its shortest form"),
-        10 => say(b"a fault is at no processor"),
-        11 => say(b"a fault is there twice"),
-        12 => say(b"bytes follow the last fault"),
-        _ => say(b"the file is no map"),
-    }
-}
-
-// Tells why a map file is refused.
+// Tells the number and the place of a refused map file; bin/mapfile puts them in words.
 fn say_refusal(r: Refusal) {
     say(b"refused ");
     io::print_decimal(STDERR_FILENO, r.number as u64);
     say(b" at byte ");
     io::print_decimal(STDERR_FILENO, r.place as u64);
-    say(b": ");
-    say_meaning(r.number);
     say(b"\n");
 }
 
