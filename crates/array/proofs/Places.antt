@@ -7,7 +7,7 @@ use Prim.Native.Nat.{ℕ, _+_, _≤_}
 use lib.Dec.{eqb}
 use borrow.Author.Tests.{leb-true, le-leb, ne-eqb}
 use native.Mathlib.Omega.{arith}
-use Rattle.array.specs.Place.{size, inner-at, corner-at, processor-at, inner, row, column}
+use Rattle.array.specs.Place.{size, position, inner-at, corner-at, processor-at, inner, row, column}
 use Rattle.array.proofs.Bools.{and-true, and-none}
 
 pub record Sized (n m : ℕ) : Type 0 where
@@ -64,3 +64,17 @@ pub inner-stands : (n m x y : ℕ) → inner-at n m x y ≡ true → processor-a
 inner-stands n m x y h =
     let i = inner-at-holds n m x y h in
     stands-between n m x y (omega arith) (omega arith) (inl (i .row-low, i .row-high))
+
+-- a row and a column of cells
+pub inner-between : (n m x y : ℕ) → 1 ≤ x → x ≤ n → 1 ≤ y → y ≤ m → inner-at n m x y ≡ true
+inner-between n m x y a b c d = rw (le-leb 1 x a, le-leb x n b, le-leb 1 y c, le-leb y m d)
+
+-- the row and the column of a processor
+pub processor-within : (n m x y : ℕ) → processor-at n m x y ≡ true → (x ≤ n + 1) × (y ≤ m + 1)
+processor-within n m x y h =
+    let a = and-true _ _ (and-true _ _ h .0) in
+    (leb-true _ _ (a .0), leb-true _ _ (a .1))
+
+-- what a position is read back as
+pub position-read : (x y : ℕ) → y ≤ 31 → (row (position x y) ≡ x) × (column (position x y) ≡ y)
+position-read x y h = (omega arith, omega arith)

@@ -6,12 +6,13 @@ use mathlib.Core.Option.{Option, none, some}
 use Prim.Native.Nat.{ℕ, zero, suc, _+_, _-_, _/_, _%_, _≤_}
 use native.Mathlib.Numerals.{add-one}
 use native.Mathlib.Omega.{arith}
-use borrow.Author.Tests.{leb-true, eq-eqb, ne-eqb}
+use borrow.Author.Tests.{eq-eqb, ne-eqb}
 use lib.Dec.{ltb, eqb}
 use lib.ListN.{getD}
 use Rattle.array.specs.Place.{position, processor-at}
 use Rattle.array.specs.Map.{inner-fault}
 use Rattle.array.proofs.Bools.{and-true, cond-taken, cond-left}
+use Rattle.array.proofs.Places.{processor-within}
 use Rattle.track.specs.Ports.{Wafer, Compass, W, E, N, S, Node, Processor, Across, Down, _at_, neighbour, stands, if-stands, joins-nothing, joined, fault-joins, across-joins, down-joins, W–S·E–N, W–N·E–S}
 use Rattle.track.specs.Link.{ends, inside, joined-to}
 use Rattle.follower.specs.declared.Port.{Port}
@@ -94,10 +95,7 @@ first-stands n m x y k l =
     kinds (λ k. stands n m (node k x y) ≡ true → processor-at n m x y ≡ true) (λ h. h) (λ h. and-true _ _ h .0) (λ h. and-true _ _ h .0) k l
 
 stands-low : (n m x y k : ℕ) → k ≤ 2 → stands n m (node k x y) ≡ true → (x ≤ n + 1) × (y ≤ m + 1)
-stands-low n m x y k l h =
-    let a = and-true _ _ (first-stands n m x y k l h) in
-    let b = and-true _ _ (a .0) in
-    (leb-true _ _ (b .0), leb-true _ _ (b .1))
+stands-low n m x y k l h = processor-within n m x y (first-stands n m x y k l h)
 
 module _ (n m : ℕ) (p : Port) where
   pub stretch-none : Neighbours p Nothing → Stretches n m p Nothing

@@ -3,3 +3,5 @@ pub mod Ways
 pub mod Walking
 pub mod Meeting
 pub mod Clashes
+pub mod Opens
+pub mod Directions

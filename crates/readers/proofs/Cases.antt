@@ -13,7 +13,7 @@ use Rattle.array.specs.Buffer.{buffer}
 use Rattle.array.specs.Tests.{refusal}
 use Rattle.array.specs.declared.Refusal.{Refusal}
 use Rattle.array.proofs.Bools.{and-true, by-bool, cond-taken, cond-left}
-use Rattle.array.proofs.Places.{inner-at-holds}
+use Rattle.array.proofs.Places.{inner-stands, processor-within}
 use Rattle.array.proofs.Fills.{tabulate-length}
 use Rattle.array.proofs.Marks.{faulty-read}
 use Rattle.formats.specs.Number.{number-at, size-at, refused}
@@ -68,8 +68,8 @@ blank-length kind n m = ap length (blank-is kind n m) ∙ tabulate-length (blank
 
 -- the row and the column of a record that may stand
 pub stands-within : (kind : Kind) (n m x y : ℕ) → stands-at kind n m x y ≡ true → (x ≤ n + 1) × (y ≤ m + 1)
-stands-within Map n m x y t = let a = and-true _ _ (and-true _ _ t .0) in (leb-true _ _ (a .0), leb-true _ _ (a .1))
-stands-within Plan n m x y t = let i = inner-at-holds n m x y t in (omega arith, omega arith)
+stands-within Map n m x y t = processor-within n m x y t
+stands-within Plan n m x y t = processor-within n m x y (inner-stands n m x y t)
 
 -- a value that a record may write
 pub value-low : (kind : Kind) (v : ℕ) → is-value kind v ≡ true → v ≤ 4

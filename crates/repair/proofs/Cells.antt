@@ -5,13 +5,12 @@ use mathlib.Core.Bool.{true}
 use mathlib.Core.List.{List}
 use Prim.Native.Nat.{ℕ, _+_, _≤_, _<_}
 use native.Mathlib.Omega.{arith}
-use borrow.Author.Tests.{ne-eqb}
 use lib.ListN.{length, getD}
 use Rattle.array.specs.Place.{inner}
-use Rattle.array.proofs.Bools.{by-eq}
 use Rattle.array.proofs.Places.{inner-holds}
 use Rattle.array.proofs.Fills.{tabulate-length, tabulate-at}
 use Rattle.paths.specs.Path.{ahead}
+use Rattle.paths.proofs.Directions.{by-number}
 use Rattle.plans.specs.Faults.{directed-faults}
 use Rattle.track.specs.Placement.{through, seat, placed-at, placement}
 
@@ -21,11 +20,8 @@ cell-low n m p h k i = let z = inner-holds n m p i in omega (arith, z .row-high,
 -- one step from p, in any direction, is at most a row further
 next-low : (p d : ℕ) → ahead p d 1 ≤ p + 32
 next-low p d =
-    by-eq d 1 (λ e. rw e (omega arith))
-    (λ a. by-eq d 2 (λ e. rw e (omega arith))
-    (λ b. by-eq d 3 (λ e. rw e (omega arith))
-    (λ c. by-eq d 4 (λ e. rw e (omega arith))
-    (λ f. rw (ne-eqb d 1 a, ne-eqb d 2 b, ne-eqb d 3 c, ne-eqb d 4 f) (omega arith)))))
+    by-number (λ z. ahead p z 1 ≤ p + 32) d (omega arith) (omega arith) (omega arith) (omega arith)
+    (λ a b c e. rw (a, b, c, e) (omega arith))
 
 module _ (n m : ℕ) (grid directions : List ℕ) where
   pub placement-long : length (placement n m grid directions) ≡ 1024

@@ -1,20 +1,21 @@
 -- By the traced paths the placement and the letters are those of the definitions, and the laws of the switches that both kinds share.
 -- Assumes nothing.
-use mathlib.Core.Path.{_≡_, sym, ap, _∙_}
+use mathlib.Core.Path.{_≡_, refl, sym, ap, _∙_}
 use mathlib.Core.Bool.{Bool, true, false, cond}
 use mathlib.Core.List.{List}
 use Prim.Native.Nat.{ℕ, _+_, _<_, _≤_}
 use native.Mathlib.Omega.{arith}
-use borrow.Author.Tests.{ne-eqb, leb-true}
 use lib.Dec.{eqb}
 use lib.ListN.{length, getD}
 use lib.Seq.{ext-getD}
 use Rattle.array.specs.Place.{inner, processor-at, row, column}
 use Rattle.array.specs.Buffer.{buffer}
 use Rattle.array.specs.Map.{faulty}
-use Rattle.array.proofs.Bools.{and-true, by-bool, by-eq}
+use Rattle.array.proofs.Bools.{and-true, by-bool}
+use Rattle.array.proofs.Places.{processor-within}
 use Rattle.array.proofs.Fills.{tabulate-length, tabulate-at}
 use Rattle.paths.specs.Path.{ahead}
+use Rattle.paths.proofs.Directions.{by-number}
 use Rattle.plans.specs.Faults.{directed-faults}
 use Rattle.track.specs.Placement.{through, placement}
 use Rattle.track.specs.Letters.{vertical, horizontal, letter, across-letters, down-letters}
@@ -48,11 +49,7 @@ module _ (n m : ℕ) (grid directions : List ℕ) where
 -- the horizontal state is the vertical one with the grid transposed
 pub transposed-state : (d : ℕ) (fault : Bool) → vertical (transposed d) fault ≡ horizontal d fault
 transposed-state d fault =
-    by-eq d 1 (λ e. rw e)
-    (λ a. by-eq d 2 (λ e. rw e)
-    (λ b. by-eq d 3 (λ e. rw e)
-    (λ u. by-eq d 4 (λ e. rw e)
-    (λ v. simp (ne-eqb d 1 a, ne-eqb d 2 b, ne-eqb d 3 u, ne-eqb d 4 v)))))
+    by-number (λ z. vertical (transposed z) fault ≡ horizontal z fault) d refl refl refl refl (λ a b c e. simp (a, b, c, e))
 
 low-choice : (a b fault : Bool) → cond a (cond fault 2 1) (cond b (cond fault 3 4) 0) ≤ 4
 low-choice true b true = omega arith
@@ -65,19 +62,14 @@ pub state-low : (down : Bool) (d : ℕ) (fault : Bool) → state down d fault �
 state-low true d fault = low-choice (eqb d 3) (eqb d 4) fault
 state-low false d fault = low-choice (eqb d 1) (eqb d 2) fault
 
--- the second processor of a switch is within the buffers
-processor-low : (n m x y : ℕ) → processor-at n m x y ≡ true → (x ≤ n + 1) × (y ≤ m + 1)
-processor-low n m x y h =
-    let a = and-true _ _ (and-true _ _ h .0) in
-    (leb-true _ _ (a .0), leb-true _ _ (a .1))
-
 module _ (n m : ℕ) (hn : n ≤ 30) (hm : m ≤ 30) where
+  -- the second processor of a switch is within the buffers
   pub second-within : (down : Bool) (p : ℕ) → switch-exists down n m p ≡ true → second-at down p < 1024
   second-within true p h =
-      let a = processor-low n m (row p + 1) (column p) (and-true (processor-at n m (row p) (column p)) _ h .1) in
+      let a = processor-within n m (row p + 1) (column p) (and-true (processor-at n m (row p) (column p)) _ h .1) in
       omega (arith, a .0)
   second-within false p h =
-      let a = processor-low n m (row p) (column p + 1) (and-true (processor-at n m (row p) (column p)) _ h .1) in
+      let a = processor-within n m (row p) (column p + 1) (and-true (processor-at n m (row p) (column p)) _ h .1) in
       omega (arith, a .0, a .1)
 
   -- the letter under p, where f gives the direction of the path through a position

@@ -5,12 +5,12 @@ use mathlib.Core.Bool.{Bool, true, false, cond, not, _&&_}
 use mathlib.Core.List.{List}
 use Prim.Native.Nat.{ℕ, _+_}
 use native.Mathlib.Omega.{arith}
-use borrow.Author.Tests.{le-leb}
 use lib.Dec.{T, leb}
 use lib.ListN.{length, getD}
 use Rattle.array.specs.Place.{position, row, column, inner}
 use Rattle.array.specs.Map.{mark-at, faulty}
 use Rattle.array.proofs.Bools.{and-both}
+use Rattle.array.proofs.Places.{inner-between, position-read}
 use Rattle.array.proofs.Fills.{tabulate-at, tabulate-length}
 use Rattle.array.proofs.Marks.{healthy-not-faulty}
 use Rattle.array.proofs.Scans.{scan-all, buffer-scan}
@@ -22,7 +22,7 @@ use Rattle.track.specs.Follower.{processor-of, switch-test, landing}
 use Rattle.track.specs.Theorems.{Routed, Cell, holder, Neighbour, right, lower, Follower-arrives, Placement-holds, Switches-pass}
 use Rattle.track.proofs.View.{tr}
 use Rattle.track.proofs.Walks.{State, state, state-number}
-use Rattle.track.proofs.Cross.{all, all-at}
+use Rattle.track.proofs.Cross.{all, pairs-at}
 use Rattle.track.proofs.Paths.{true-if}
 use Rattle.track.proofs.OnPath.{heading}
 use Rattle.track.proofs.Held.{fault-list, through-at, vertical-is, horizontal-is, formed-of}
@@ -36,9 +36,8 @@ use Rattle.track.specs.Link as link
 inner-cell : (w : Wafer) → Routed w → (i j : ℕ) → Cell w i j → inner (w .rows) (w .columns) (position i j) ≡ true
 inner-cell w r i j c =
     let s = formed-of w r .sizes in
-    let a : row (position i j) ≡ i = omega (arith, s, c) in
-    let b : column (position i j) ≡ j = omega (arith, s, c) in
-    rw (a, b, le-leb 1 i (c .row-low), le-leb i (w .rows) (c .row-high), le-leb 1 j (c .column-low), le-leb j (w .columns) (c .column-high))
+    let e = position-read i j (omega (arith, s, c)) in
+    rw (e .0, e .1) (inner-between (w .rows) (w .columns) i j (c .row-low) (c .row-high) (c .column-low) (c .column-high))
 
 pub placement-holds : Placement-holds
 unfolding placement
@@ -55,10 +54,7 @@ unfolding letter letters.entry letters.letters
 letters-range = tt
 
 in-range : (s t : State) → lettered (letter (state-number s) (state-number t)) ≡ true
-in-range s t =
-    true-if _
-    (all-at (λ t. lettered (letter (state-number s) (state-number t)))
-    (all-at (λ s. all (λ t. lettered (letter (state-number s) (state-number t)))) letters-range s) t)
+in-range s t = true-if _ (pairs-at (λ s t. lettered (letter (state-number s) (state-number t))) letters-range s t)
 
 byte-fits : (e : Bool) (l : ℕ) → lettered l ≡ true → switch-byte e (cond e l 0) ≡ true
 byte-fits true l h = h

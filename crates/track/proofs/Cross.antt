@@ -114,6 +114,9 @@ all-at f t v2 = and-left (f v2) _ (and-right (f v1) _ (and-right (f v0) _ t))
 all-at f t v3 = and-left (f v3) _ (and-right (f v2) _ (and-right (f v1) _ (and-right (f v0) _ t)))
 all-at f t v4 = and-right (f v3) _ (and-right (f v2) _ (and-right (f v1) _ (and-right (f v0) _ t)))
 
+pub pairs-at : (f : State → State → Bool) → T (all (λ s. all (λ t. f s t))) → (s t : State) → T (f s t)
+pairs-at f h s t = all-at (λ t. f s t) (all-at (λ s. all (λ t. f s t)) h s) t
+
 -- where a test passes, another does
 abbrev pub given : Bool → Bool → Bool
 given true b = b
@@ -141,12 +144,8 @@ pub rule :
     T (leads (rel u′) (rel v′) (table u v) (table u′ v′) (table u″ v″))
 rule u′ v′ u v u″ v″ n a b c d =
     use-given (beside u′ v′ && (above u u′ && (above v v′ && (above u′ u″ && above v′ v″)))) _
-    (all-at (λ v″. right u′ v′ u v u″ v″)
-    (all-at (λ u″. all (λ v″. right u′ v′ u v u″ v″))
-    (all-at (λ v. all (λ u″. all (λ v″. right u′ v′ u v u″ v″)))
-    (all-at (λ u. all (λ v. all (λ u″. all (λ v″. right u′ v′ u v u″ v″))))
-    (all-at (λ v′. all (λ u. all (λ v. all (λ u″. all (λ v″. right u′ v′ u v u″ v″)))))
-    (all-at (λ u′. all (λ v′. all (λ u. all (λ v. all (λ u″. all (λ v″. right u′ v′ u v u″ v″)))))) everywhere u′)
-    v′) u) v) u″) v″)
+    (pairs-at (λ u″ v″. right u′ v′ u v u″ v″)
+    (pairs-at (λ u v. all (λ u″. all (λ v″. right u′ v′ u v u″ v″)))
+    (pairs-at (λ u′ v′. all (λ u. all (λ v. all (λ u″. all (λ v″. right u′ v′ u v u″ v″))))) everywhere u′ v′) u v) u″ v″)
     (and-intro (beside u′ v′) _ n
     (and-intro (above u u′) _ a (and-intro (above v v′) _ b (and-intro (above u′ u″) (above v′ v″) c d))))

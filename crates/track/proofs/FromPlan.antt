@@ -4,7 +4,8 @@ use Prim.Native.Nat.{ℕ, suc, _≤_}
 use native.Mathlib.Omega.{arith}
 use mathlib.Core.Path.{_≡_, refl, _∙_, sym, ap}
 use mathlib.Core.Bool.{Bool, true, false, not, _&&_}
-use lib.Dec.{T, leb, le→leb}
+use lib.Dec.{T, leb}
+use Rattle.array.proofs.Places.{inner-between}
 use Rattle.track.proofs.View.{Dir, still, south, north, east, west, tr, moving, View, transposed, on, covers, Source, Planned}
 use Rattle.track.proofs.Walks.{state, vertical}
 use Rattle.track.proofs.Cross.{above, beside, given, use-given, and-left, and-right, and-intro}
@@ -56,6 +57,18 @@ at-Bool : (f : Bool → Bool) → T (all-Bool f) → (b : Bool) → T (f b)
 at-Bool f t true = and-left (f true) _ t
 at-Bool f t false = and-right (f true) _ t
 
+-- a rule that facts of two processors' directions and faults imply, by one computed test
+by-table : (facts rule : Dir → Bool → Dir → Bool → Bool)
+    → T (all-Dir (λ d. all-Bool (λ f. all-Dir (λ d′. all-Bool (λ f′. given (facts d f d′ f′) (rule d f d′ f′))))))
+    → (d : Dir) (f : Bool) (d′ : Dir) (f′ : Bool) → T (facts d f d′ f′) → T (rule d f d′ f′)
+by-table facts rule t d f d′ f′ =
+    let g : Dir → Bool → Dir → Bool → Bool = λ d f d′ f′. given (facts d f d′ f′) (rule d f d′ f′) in
+    use-given (facts d f d′ f′) (rule d f d′ f′)
+    (at-Bool (λ f′. g d f d′ f′)
+    (at-Dir (λ d′. all-Bool (λ f′. g d f d′ f′))
+    (at-Bool (λ f. all-Dir (λ d′. all-Bool (λ f′. g d f d′ f′)))
+    (at-Dir (λ d. all-Bool (λ f. all-Dir (λ d′. all-Bool (λ f′. g d f d′ f′)))) t d) f) d′) f′)
+
 give : (a b : Bool) → (T a → T b) → T (given a b)
 give true b h = h tt
 give false b h = tt
@@ -68,31 +81,15 @@ facts d f d′ f′ =
     && (given (goes-north d′) (goes-north d && not f)
     && given (goes-north d && not f) (goes-north d′)))
 
-above-table : T (all-Dir (λ d. all-Bool (λ f. all-Dir (λ d′. all-Bool (λ f′. given (facts d f d′ f′) (above (state d f) (state d′ f′)))))))
-above-table = tt
-
 above-rule : (d : Dir) (f : Bool) (d′ : Dir) (f′ : Bool) → T (facts d f d′ f′) → T (above (state d f) (state d′ f′))
-above-rule d f d′ f′ =
-    use-given (facts d f d′ f′) (above (state d f) (state d′ f′))
-    (at-Bool (λ f′. given (facts d f d′ f′) (above (state d f) (state d′ f′)))
-    (at-Dir (λ d′. all-Bool (λ f′. given (facts d f d′ f′) (above (state d f) (state d′ f′))))
-    (at-Bool (λ f. all-Dir (λ d′. all-Bool (λ f′. given (facts d f d′ f′) (above (state d f) (state d′ f′)))))
-    (at-Dir (λ d. all-Bool (λ f. all-Dir (λ d′. all-Bool (λ f′. given (facts d f d′ f′) (above (state d f) (state d′ f′)))))) above-table d) f) d′) f′)
+above-rule = by-table facts (λ d f d′ f′. above (state d f) (state d′ f′)) tt
 
 abbrev facing : Dir → Bool → Dir → Bool → Bool
 facing d f d′ f′ =
     given (goes-south d && goes-north d′) (f && f′) && given (goes-north d && goes-south d′) (f && f′)
 
-beside-table : T (all-Dir (λ d. all-Bool (λ f. all-Dir (λ d′. all-Bool (λ f′. given (facing d f d′ f′) (beside (state d f) (state d′ f′)))))))
-beside-table = tt
-
 beside-rule : (d : Dir) (f : Bool) (d′ : Dir) (f′ : Bool) → T (facing d f d′ f′) → T (beside (state d f) (state d′ f′))
-beside-rule d f d′ f′ =
-    use-given (facing d f d′ f′) (beside (state d f) (state d′ f′))
-    (at-Bool (λ f′. given (facing d f d′ f′) (beside (state d f) (state d′ f′)))
-    (at-Dir (λ d′. all-Bool (λ f′. given (facing d f d′ f′) (beside (state d f) (state d′ f′))))
-    (at-Bool (λ f. all-Dir (λ d′. all-Bool (λ f′. given (facing d f d′ f′) (beside (state d f) (state d′ f′)))))
-    (at-Dir (λ d. all-Bool (λ f. all-Dir (λ d′. all-Bool (λ f′. given (facing d f d′ f′) (beside (state d f) (state d′ f′)))))) beside-table d) f) d′) f′)
+beside-rule = by-table facing (λ d f d′ f′. beside (state d f) (state d′ f′)) tt
 
 T-not : (b : Bool) → b ≡ false → T (not b)
 T-not b e = rw e tt
@@ -215,9 +212,5 @@ plan-rules w p =
       vert = λ x y a b c. vert w p x y c;
       near = λ x y a b c d. near w p x y;
       horiz = λ x y a b c. vert (transposed w) (transposed-plan w p) y x c;
-      alive = λ x y a b c d f e. covered w p x y
-          (and-intro (leb 1 x && leb x (w .rows)) (leb 1 y && leb y (w .cols))
-          (and-intro (leb 1 x) (leb x (w .rows)) (le→leb 1 x a) (le→leb x (w .rows) b))
-          (and-intro (leb 1 y) (leb y (w .cols)) (le→leb 1 y c) (le→leb y (w .cols) d)))
-          (rw f tt) e;
+      alive = λ x y a b c d f e. covered w p x y (rw (inner-between (w .rows) (w .cols) x y a b c d) tt) (rw f tt) e;
     }

@@ -1,31 +1,33 @@
 -- The switches and processors of a routed wafer hold what a walk of its view meets, along rows and, with the view transposed, along columns.
 -- Assumes nothing.
 use mathlib.Core.Path.{_≡_, refl, sym, ap, _∙_}
-use mathlib.Core.Bool.{Bool, true, false, _&&_, false≢true, true≢false}
+use mathlib.Core.Bool.{Bool, true, false, false≢true, true≢false}
 use mathlib.Core.List.{List}
 use mathlib.Core.Option.{Option, none, some}
 use Prim.Native.Nat.{ℕ, suc, _+_, _≤_}
 use native.Mathlib.Omega.{arith}
 use native.Mathlib.Numerals.{add-one}
-use borrow.Author.Tests.{leb-true, le-leb, ne-eqb}
-use lib.Dec.{T, eqb, leb, eqb→eq}
+use borrow.Author.Tests.{le-leb}
+use lib.Dec.{T, eqb, eqb→eq}
 use lib.ListN.{getD}
 use Rattle.array.specs.Place.{position, row, column, inner-at, inner, processor-at}
 use Rattle.array.specs.Map.{faulty}
 use Rattle.array.proofs.Bools.{and-true, and-none}
-use Rattle.array.proofs.Places.{inner-at-holds}
+use Rattle.array.proofs.Places.{inner-at-holds, processor-within, position-read}
 use Rattle.array.proofs.Fills.{tabulate-at}
 use Rattle.array.proofs.Formed.{Formed, formed}
+use Rattle.paths.proofs.Directions.{by-number}
 use Rattle.plans.specs.Faults.{directed-faults}
 use Rattle.plans.specs.declared.Fault.{Fault}
+use Rattle.plans.proofs.ByPosition.{buffer-plan}
 use Rattle.track.specs.Placement.{through}
 use Rattle.track.specs.Letters.{letter, across-exists, down-exists, across-at, down-at, across-letters, down-letters}
 use Rattle.track.specs.Ports.{Wafer, Compass, W, E, N, S, Processor, Across, Down, Port, _at_, stands, N–S, W–E, unjoined as unjoined-all, across-joins, down-joins, fault-joins, joins-nothing, joined}
 use Rattle.track.specs.Theorems.{Routed}
 use Rattle.track.proofs.View.{Dir, still, south, north, east, west, tr, moving, View, transposed, Planned}
 use Rattle.track.proofs.Walks.{State, state, state-number, code, as-joined, vertical, Letter, sa, sb, sc, sd, no-switch, table, where-both, across, Joined, to, unjoined, missing, join, ends, runs, inside, inside-of}
-use Rattle.track.proofs.Cross.{all, all-at}
-use Rattle.track.proofs.OnPath.{heading, by-heading}
+use Rattle.track.proofs.Cross.{all, pairs-at}
+use Rattle.track.proofs.OnPath.{heading}
 use Rattle.track.proofs.Seen.{view, planned}
 use Rattle.track.proofs.Paths.{moving-not-still, own-direction, true-if}
 use Rattle.track.proofs.Rules.{processor-turns}
@@ -35,19 +37,17 @@ use Rattle.track.specs.Link as link
 
 pub vertical-is : (d : ℕ) (f : Bool) → letters.vertical d f ≡ state-number (state (heading d) f)
 vertical-is d true =
-    by-heading (λ z. letters.vertical z true ≡ state-number (state (heading z) true)) d refl refl refl refl
-    (λ a b c e. rw (ne-eqb d 1 a, ne-eqb d 2 b, ne-eqb d 3 c, ne-eqb d 4 e))
+    by-number (λ z. letters.vertical z true ≡ state-number (state (heading z) true)) d refl refl refl refl (λ a b c e. rw (a, b, c, e))
 vertical-is d false =
-    by-heading (λ z. letters.vertical z false ≡ state-number (state (heading z) false)) d refl refl refl refl
-    (λ a b c e. rw (ne-eqb d 1 a, ne-eqb d 2 b, ne-eqb d 3 c, ne-eqb d 4 e))
+    by-number (λ z. letters.vertical z false ≡ state-number (state (heading z) false)) d refl refl refl refl (λ a b c e. rw (a, b, c, e))
 
 pub horizontal-is : (d : ℕ) (f : Bool) → letters.horizontal d f ≡ state-number (state (tr (heading d)) f)
 horizontal-is d true =
-    by-heading (λ z. letters.horizontal z true ≡ state-number (state (tr (heading z)) true)) d refl refl refl refl
-    (λ a b c e. rw (ne-eqb d 1 a, ne-eqb d 2 b, ne-eqb d 3 c, ne-eqb d 4 e))
+    by-number (λ z. letters.horizontal z true ≡ state-number (state (tr (heading z)) true)) d refl refl refl refl
+    (λ a b c e. rw (a, b, c, e))
 horizontal-is d false =
-    by-heading (λ z. letters.horizontal z false ≡ state-number (state (tr (heading z)) false)) d refl refl refl refl
-    (λ a b c e. rw (ne-eqb d 1 a, ne-eqb d 2 b, ne-eqb d 3 c, ne-eqb d 4 e))
+    by-number (λ z. letters.horizontal z false ≡ state-number (state (tr (heading z)) false)) d refl refl refl refl
+    (λ a b c e. rw (a, b, c, e))
 
 abbrev same-letter : State → State → Bool
 same-letter s t = eqb (letter (state-number s) (state-number t)) (code (table s t))
@@ -58,7 +58,7 @@ letters-agree = tt
 
 pub letter-is : (s t : State) → letter (state-number s) (state-number t) ≡ code (table s t)
 letter-is s t =
-    eqb→eq _ _ (all-at (λ t. same-letter s t) (all-at (λ s. all (λ t. same-letter s t)) letters-agree s) t)
+    eqb→eq _ _ (pairs-at same-letter letters-agree s t)
 
 -- joins
 abbrev as-option : Joined → Option Compass
@@ -104,13 +104,6 @@ down-joins-is no-switch p = refl
 pub down-turns : (n m x y : ℕ) → across-exists m n x y ≡ down-exists n m y x
 down-turns n m x y = rw (processor-turns m n x y, processor-turns m n x (y + 1))
 
--- the bounds of a processor
-pub within : (n m x y : ℕ) → processor-at n m x y ≡ true → (x ≤ n + 1) × (y ≤ m + 1)
-within n m x y h =
-    let a = and-true (leb x (n + 1) && leb y (m + 1)) _ h in
-    let b = and-true (leb x (n + 1)) (leb y (m + 1)) (a .0) in
-    (leb-true _ _ (b .0), leb-true _ _ (b .1))
-
 -- what an inner fault of a direction joins
 abbrev joins-of : Dir → Compass → Option Compass
 joins-of still = unjoined-all
@@ -121,8 +114,7 @@ joins-of west = W–E
 
 fault-joins-is : (d : ℕ) (s : Compass) → fault-joins d s ≡ joins-of (heading d) s
 fault-joins-is d s =
-    by-heading (λ z. fault-joins z s ≡ joins-of (heading z) s) d refl refl refl refl
-    (λ a b c e. rw (ne-eqb d 1 a, ne-eqb d 2 b, ne-eqb d 3 c, ne-eqb d 4 e))
+    by-number (λ z. fault-joins z s ≡ joins-of (heading z) s) d refl refl refl refl (λ a b c e. rw (a, b, c, e))
 
 -- a fault that a walk runs through is on a path along the walk's axis
 abbrev level : Dir → Bool
@@ -205,7 +197,9 @@ module _ (w : Wafer) (r : Routed w) where
   formed-of = formed (w .rows) (w .columns) (w .grid) (r .map)
 
   pub planned-of : Planned (view-of w)
-  planned-of = planned (w .rows) (w .columns) (w .grid) (w .directions) formed-of (r .plan)
+  planned-of =
+      planned (w .rows) (w .columns) (w .grid) (w .directions) formed-of
+      (buffer-plan (w .rows) (w .columns) (w .grid) (w .directions) .0 (r .plan))
 
   -- the states that the letters are read from are those of the view
   pub vertical-held : (x y : ℕ) → y ≤ 31
@@ -224,15 +218,13 @@ module _ (w : Wafer) (r : Routed w) where
   unfolding across-letters
   across-held x y h =
       let a = and-true (processor-at (w .rows) (w .columns) x y) (processor-at (w .rows) (w .columns) x (y + 1)) h in
-      let b = within (w .rows) (w .columns) x y (a .0) in
-      let c = within (w .rows) (w .columns) x (y + 1) (a .1) in
+      let b = processor-within (w .rows) (w .columns) x (y + 1) (a .1) in
       let s = formed-of .sizes in
-      let i : row (position x y) ≡ x = omega (arith, s) in
-      let j : column (position x y) ≡ y = omega (arith, s) in
+      let i = position-read x y (omega (arith, s)) in
       let k : position x y + 1 ≡ position x (suc y) = omega arith in
       ap (λ (z : List ℕ). getD z (position x y) 0) (r .across-set)
       ∙ tabulate-at (across-at (w .rows) (w .columns) (w .grid) (fault-list w)) 1024 (position x y) 0 (omega (arith, s))
-      ∙ rw (i, j, h, k, vertical-held x y (omega (arith, s)), vertical-held x (suc y) (omega (arith, s)))
+      ∙ rw (i .0, i .1, h, k, vertical-held x y (omega (arith, s)), vertical-held x (suc y) (omega (arith, s)))
       (letter-is (vertical (view-of w) x y) (vertical (view-of w) x (suc y)))
 
   pub down-held : (x y : ℕ) → down-exists (w .rows) (w .columns) y x ≡ true
@@ -240,15 +232,13 @@ module _ (w : Wafer) (r : Routed w) where
   unfolding down-letters
   down-held x y h =
       let a = and-true (processor-at (w .rows) (w .columns) y x) (processor-at (w .rows) (w .columns) (y + 1) x) h in
-      let b = within (w .rows) (w .columns) y x (a .0) in
-      let c = within (w .rows) (w .columns) (y + 1) x (a .1) in
+      let b = processor-within (w .rows) (w .columns) (y + 1) x (a .1) in
       let s = formed-of .sizes in
-      let i : row (position y x) ≡ y = omega (arith, s) in
-      let j : column (position y x) ≡ x = omega (arith, s) in
+      let i = position-read y x (omega (arith, s)) in
       let k : position y x + 32 ≡ position (suc y) x = omega arith in
       ap (λ (z : List ℕ). getD z (position y x) 0) (r .down-set)
       ∙ tabulate-at (down-at (w .rows) (w .columns) (w .grid) (fault-list w)) 1024 (position y x) 0 (omega (arith, s))
-      ∙ rw (i, j, h, k, horizontal-held x y (omega (arith, s)), horizontal-held x (suc y) (omega (arith, s)), down-turns (w .rows) (w .columns) x y, h)
+      ∙ rw (i .0, i .1, h, k, horizontal-held x y (omega (arith, s)), horizontal-held x (suc y) (omega (arith, s)), down-turns (w .rows) (w .columns) x y, h)
       (letter-is (vertical (transposed (view-of w)) x y) (vertical (transposed (view-of w)) x (suc y)))
 
   -- a healthy processor ends a link
@@ -265,12 +255,10 @@ module _ (w : Wafer) (r : Routed w) where
       let o = own-direction (view-of w) planned-of d x y m (rw h tt) e in
       let a = true-if (inner-at (w .rows) (w .columns) x y) (planned-of .only x y (λ z. moving-not-still d m (sym o ∙ z)) .0) in
       let b = inner-at-holds (w .rows) (w .columns) x y a in
-      let c = formed-of .sizes in
-      let i : row (position x y) ≡ x = omega (arith, c) in
-      let j : column (position x y) ≡ y = omega (arith, c) in
+      let i = position-read x y (omega (arith, b .column-high, formed-of .sizes .columns-high)) in
       let k : heading (getD (w .directions) (position x y) 0) ≡ d = rw (a, h) at o in
-      inside-on w (Processor x y at s) q (rw (i, j, a, h))
-      (rw (i, j, a, h, fault-joins-is (getD (w .directions) (position x y) 0) s, k) g)
+      inside-on w (Processor x y at s) q (rw (i .0, i .1, a, h))
+      (rw (i .0, i .1, a, h, fault-joins-is (getD (w .directions) (position x y) 0) s, k) g)
 
   across-inside : (x y : ℕ) (p q : Compass) → across-exists (w .rows) (w .columns) x y ≡ true → join (across (view-of w) x y) p ≡ to q
       → link.inside w (Across x y at p) ≡ link.on (Across x y at q)

@@ -1,126 +1,59 @@
--- A position is a member of a path's list exactly when its row and column lie on the path; and what openness and meeting say of members.
+-- A position is a member of a path's list exactly when its row and column lie on the path in the view.
 -- Assumes nothing.
-use mathlib.Core.Path.{_≡_, sym, ap, _∙_}
-use mathlib.Core.Bool.{true, false, not, false≢true}
-use mathlib.Core.List.{List}
-use Prim.Native.Nat.{ℕ, zero, suc, _+_, _-_, _<_, _≤_}
+use mathlib.Core.Path.{_≡_}
+use mathlib.Core.Bool.{true}
+use Prim.Native.Nat.{ℕ, suc, _≤_}
 use native.Mathlib.Omega.{arith}
-use borrow.Author.Tests.{eq-eqb, le-leb, not-true}
+use borrow.Author.Tests.{eq-eqb, le-leb}
 use lib.Dec.{T}
-use lib.ListN.{drop}
 use Rattle.array.specs.Place.{position, row, column}
-use Rattle.array.specs.Buffer.{span}
-use Rattle.array.specs.Map.{faulty}
-use Rattle.array.proofs.Bools.{and-true, by-eq, by-lt}
 use Rattle.array.proofs.Places.{Inner}
-use Rattle.paths.proofs.Meeting.{member-elim, member-intro}
-use Rattle.paths.specs.Path.{by-direction, ahead, path-length, path, none-faulty, is-open, member}
+use Rattle.paths.specs.Path.{by-direction, path, member}
+use Rattle.paths.proofs.Ways.{Way}
+use Rattle.paths.proofs.Meeting.{Box, on-path-box, box-on-path}
 use Rattle.track.proofs.View.{Dir, still, south, north, east, west, View, transposed, on}
 use Rattle.track.proofs.Paths.{on-south, on-north}
-
-none-at : (grid : List ℕ) (f : ℕ → ℕ) (i k j : ℕ) → none-faulty grid (span f i k) ≡ true → i ≤ j → j < i + k → faulty grid (f j) ≡ false
-unfolding none-faulty span
-none-at grid f i zero j h l u = absurd (omega arith)
-none-at grid f i (suc k) j h l u =
-    let a = and-true (not (faulty grid (f i))) _ h in
-    by-lt i j (λ t. none-at grid f (suc i) k j (a .1) t (omega arith))
-    (λ t.
-    let e : j ≡ i = omega arith in
-    ap (λ (z : ℕ). faulty grid (f z)) e ∙ not-true _ (a .0))
-
-none-after : (grid : List ℕ) (f : ℕ → ℕ) (k j : ℕ) → none-faulty grid (drop 1 (span f 0 k)) ≡ true → 1 ≤ j → j < k → faulty grid (f j) ≡ false
-unfolding span
-none-after grid f zero j h l u = absurd (omega arith)
-none-after grid f (suc k) j h l u = none-at grid f 1 k j h l (omega arith)
-
--- a member of an open path that is faulty is its start
-pub open-start : (n m p d q : ℕ) (grid : List ℕ) → is-open n m grid p d ≡ true → member q (path n m p d) ≡ true
-    → faulty grid q ≡ true → q ≡ ahead p d 0
-unfolding is-open path
-open-start n m p d q grid o h f =
-    let r = member-elim (ahead p d) 0 (path-length n m p d) q h in
-    by-lt 0 (r .j)
-    (λ l. absurd (false≢true (sym (none-after grid (ahead p d) (path-length n m p d) (r .j) o l (omega arith)) ∙ ap (λ (z : ℕ). faulty grid z) (sym (r .is)) ∙ f)))
-    (λ l.
-    let e : r .j ≡ 0 = omega arith in
-    r .is ∙ ap (ahead p d) e)
+use Rattle.paths.proofs.Ways as way
 
 -- a direction by its number
 abbrev pub heading : ℕ → Dir
 heading d = by-direction d south north east west still
 
-pub by-heading : (P : ℕ → Type 0) (d : ℕ) → P 1 → P 2 → P 3 → P 4
-    → ((d ≡ 1 → ⊥) → (d ≡ 2 → ⊥) → (d ≡ 3 → ⊥) → (d ≡ 4 → ⊥) → P d) → P d
-by-heading P d s n e w other =
-    by-eq d 1 (λ h. rw h s)
-    (λ a. by-eq d 2 (λ h. rw h n) (λ b. by-eq d 3 (λ h. rw h e) (λ c. by-eq d 4 (λ h. rw h w) (λ f. other a b c f))))
-
 module _ (v : View) (hn : v .rows ≤ 30) (hm : v .cols ≤ 30) (p : ℕ) (i : Inner (v .rows) (v .cols) p) where
   abbrev On : ℕ → ℕ → ℕ → Type 0
-  On x y d = T (on v (heading d) (row p) (column p) x y)
+  On d x y = T (on v (heading d) (row p) (column p) x y)
 
   abbrev Member : ℕ → ℕ → ℕ → Type 0
-  Member x y d = member (position x y) (path (v .rows) (v .cols) p d) ≡ true
+  Member d x y = member (position x y) (path (v .rows) (v .cols) p d) ≡ true
 
-  module _ (x y : ℕ) where
-    on-south-path : y ≤ 31 → Member x y 1 → On x y 1
-    unfolding path
-    on-south-path b h =
-        let r = member-elim (ahead p 1) 0 _ (position x y) h in
-        rw (eq-eqb y (column p) (omega arith), le-leb (row p) x (omega arith), le-leb x (suc (v .rows)) (omega arith)) tt
+  -- the row and the column are among those of the path
+  abbrev Boxed : ℕ → ℕ → ℕ → Type 0
+  Boxed d x y = Box (v .rows) (v .cols) p d (position x y)
 
-    on-north-path : y ≤ 31 → Member x y 2 → On x y 2
-    unfolding path
-    on-north-path b h =
-        let r = member-elim (ahead p 2) 0 _ (position x y) h in
-        rw (eq-eqb y (column p) (omega arith), le-leb x (row p) (omega arith)) tt
+  box-on : (d x y : ℕ) → Way d → y ≤ 31 → Boxed d x y → On d x y
+  box-on d x y way.south h b =
+      rw (eq-eqb y (column p) (omega arith), le-leb (row p) x (omega arith), le-leb x (suc (v .rows)) (omega arith)) tt
+  box-on d x y way.north h b = rw (eq-eqb y (column p) (omega arith), le-leb x (row p) (omega arith)) tt
+  box-on d x y way.east h b =
+      rw (eq-eqb x (row p) (omega arith), le-leb (column p) y (omega arith), le-leb y (suc (v .cols)) (omega arith)) tt
+  box-on d x y way.west h b = rw (eq-eqb x (row p) (omega arith), le-leb y (column p) (omega arith)) tt
 
-    on-east-path : y ≤ 31 → Member x y 3 → On x y 3
-    unfolding path
-    on-east-path b h =
-        let r = member-elim (ahead p 3) 0 _ (position x y) h in
-        rw (eq-eqb x (row p) (omega arith), le-leb (column p) y (omega arith), le-leb y (suc (v .cols)) (omega arith)) tt
+  on-box : (d x y : ℕ) → Way d → On d x y → Boxed d x y
+  on-box d x y way.south t =
+      let o = on-south v (row p) (column p) x y t in
+      record { from-top = omega (arith, o); to-bottom = omega (arith, o); from-west = omega (arith, o); to-east = omega (arith, o) }
+  on-box d x y way.north t =
+      let o = on-north v (row p) (column p) x y t in
+      record { from-top = omega (arith, o); to-bottom = omega (arith, o); from-west = omega (arith, o); to-east = omega (arith, o) }
+  on-box d x y way.east t =
+      let o = on-south (transposed v) (column p) (row p) y x t in
+      record { from-top = omega (arith, o); to-bottom = omega (arith, o); from-west = omega (arith, o); to-east = omega (arith, o) }
+  on-box d x y way.west t =
+      let o = on-north (transposed v) (column p) (row p) y x t in
+      record { from-top = omega (arith, o); to-bottom = omega (arith, o); from-west = omega (arith, o); to-east = omega (arith, o) }
 
-    on-west-path : y ≤ 31 → Member x y 4 → On x y 4
-    unfolding path
-    on-west-path b h =
-        let r = member-elim (ahead p 4) 0 _ (position x y) h in
-        rw (eq-eqb x (row p) (omega arith), le-leb y (column p) (omega arith)) tt
+  pub member-on : (d x y : ℕ) → Way d → y ≤ 31 → Member d x y → On d x y
+  member-on d x y w h t = box-on d x y w h (on-path-box (v .rows) (v .cols) hn hm p d (position x y) w i t)
 
-    south-member : On x y 1 → Member x y 1
-    unfolding path
-    south-member h =
-        let o = on-south v (row p) (column p) x y h in
-        let e : ahead p 1 (x - row p) ≡ position x y = omega (arith, o) in
-        rw e at (member-intro (ahead p 1) 0 (path-length (v .rows) (v .cols) p 1) (x - row p) (omega arith) (omega (arith, o)))
-
-    north-member : On x y 2 → Member x y 2
-    unfolding path
-    north-member h =
-        let o = on-north v (row p) (column p) x y h in
-        let e : ahead p 2 (row p - x) ≡ position x y = omega (arith, o) in
-        rw e at (member-intro (ahead p 2) 0 (path-length (v .rows) (v .cols) p 2) (row p - x) (omega arith) (omega (arith, o)))
-
-    east-member : On x y 3 → Member x y 3
-    unfolding path
-    east-member h =
-        let o = on-south (transposed v) (column p) (row p) y x h in
-        let e : ahead p 3 (y - column p) ≡ position x y = omega (arith, o) in
-        rw e at (member-intro (ahead p 3) 0 (path-length (v .rows) (v .cols) p 3) (y - column p) (omega arith) (omega (arith, o)))
-
-    west-member : On x y 4 → Member x y 4
-    unfolding path
-    west-member h =
-        let o = on-north (transposed v) (column p) (row p) y x h in
-        let e : ahead p 4 (column p - y) ≡ position x y = omega (arith, o) in
-        rw e at (member-intro (ahead p 4) 0 (path-length (v .rows) (v .cols) p 4) (column p - y) (omega arith) (omega (arith, o)))
-
-  pub member-on : (d x y : ℕ) → y ≤ 31 → 1 ≤ d → d ≤ 4 → Member x y d → On x y d
-  member-on d x y b l u =
-      by-heading (λ z. Member x y z → On x y z) d (on-south-path x y b) (on-north-path x y b) (on-east-path x y b) (on-west-path x y b)
-      (λ e f g k. absurd (omega arith))
-
-  pub on-member : (d x y : ℕ) → 1 ≤ d → d ≤ 4 → On x y d → Member x y d
-  on-member d x y l u =
-      by-heading (λ z. On x y z → Member x y z) d (south-member x y) (north-member x y) (east-member x y) (west-member x y)
-      (λ e f g k. absurd (omega arith))
+  pub on-member : (d x y : ℕ) → Way d → On d x y → Member d x y
+  on-member d x y w t = box-on-path (v .rows) (v .cols) hn hm p d (position x y) w i (on-box d x y w t)

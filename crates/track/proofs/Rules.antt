@@ -4,10 +4,11 @@ use Prim.Native.Nat.{ℕ, suc, _+_, _≤_, _<_}
 use native.Mathlib.Omega.{arith}
 use mathlib.Core.Path.{_≡_, refl, _∙_, sym, subst}
 use mathlib.Core.Bool.{Bool, true, false, _&&_, _||_, and-comm}
-use borrow.Author.Tests.{ne-eqb, le-leb}
+use mathlib.Core.Logic.{inl, inr}
 use lib.Dec.{T, leb, eqb}
 use Rattle.array.specs.Place.{processor-at}
 use Rattle.array.proofs.Bools.{and-both}
+use Rattle.array.proofs.Places.{stands-between}
 use Rattle.track.specs.Letters.{letters, entry, letter, across-exists}
 use Rattle.track.proofs.View.{Dir, still, south, north, east, west, tr, View}
 use Rattle.track.proofs.Walks.{State, v0, v1, v2, v3, v4, state, sb, table, vertical, horizontal, across, ends, inside, inside-of, moved, placed}
@@ -25,27 +26,17 @@ pub processor-turns : (n m x y : ℕ) → processor-at n m x y ≡ processor-at 
 processor-turns n m x y =
     rw (and-comm (leb x (n + 1)) (leb y (m + 1)), and-comm (eqb x 0 || eqb x (n + 1)) (eqb y 0 || eqb y (m + 1)))
 
--- where processors and across switches are: in every column of the inner rows, and in every row of the inner columns
-module _ (n m x y : ℕ) where
-  pub processor-row : 1 ≤ x → x ≤ n → y ≤ m + 1 → processor-at n m x y ≡ true
-  processor-row a b c =
-      simp (
-        ne-eqb x 0 (λ e. omega arith),
-        ne-eqb x (n + 1) (λ e. omega arith),
-        le-leb x (n + 1) (omega arith),
-        le-leb y (m + 1) c,
-      )
-
-pub processor-column : (n m x y : ℕ) → 1 ≤ y → y ≤ m → x ≤ n + 1 → processor-at n m x y ≡ true
-processor-column n m x y a b c = processor-turns n m x y ∙ processor-row m n y x a b c
-
+-- where across switches are: in every channel of the inner rows, and in every row between inner columns
 module _ (n m x y : ℕ) where
   exists-row : 1 ≤ x → x ≤ n → y ≤ m → across-exists n m x y ≡ true
-  exists-row a b c = and-both _ _ (processor-row n m x y a b (omega arith)) (processor-row n m x (y + 1) a b (omega arith))
+  exists-row a b c =
+      and-both _ _ (stands-between n m x y (omega arith) (omega arith) (inl (a, b)))
+      (stands-between n m x (y + 1) (omega arith) (omega arith) (inl (a, b)))
 
   exists-column : 1 ≤ y → y < m → x ≤ suc n → across-exists n m x y ≡ true
   exists-column a b c =
-      and-both _ _ (processor-column n m x y a (omega arith) (omega arith)) (processor-column n m x (y + 1) (omega arith) (omega arith) (omega arith))
+      and-both _ _ (stands-between n m x y (omega arith) (omega arith) (inr (a, omega arith)))
+      (stands-between n m x (y + 1) (omega arith) (omega arith) (inr (omega arith, omega arith)))
 
 pub across-is : (w : View) (x y : ℕ) → across-exists (w .rows) (w .cols) x y ≡ true → across w x y ≡ table (vertical w x y) (vertical w x (suc y))
 across-is w x y h = rw h

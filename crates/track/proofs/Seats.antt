@@ -2,40 +2,42 @@
 -- Assumes nothing.
 use mathlib.Core.Path.{_≡_, refl, sym, ap, subst, _∙_}
 use mathlib.Core.Bool.{true, false}
+use mathlib.Core.Logic.{inl, inr}
 use Prim.Native.Nat.{ℕ, zero, suc, _≤_}
 use native.Mathlib.Omega.{arith}
-use borrow.Author.Tests.{le-leb, ne-eqb}
+use borrow.Author.Tests.{le-leb}
 use lib.Dec.{leb}
 use Rattle.array.specs.Place.{position, row, column, processor-at, processor}
 use Rattle.array.specs.Map.{mark-at, faulty, healthy}
+use Rattle.array.proofs.Places.{stands-between, inner-between, processor-within, position-read}
 use Rattle.array.proofs.Marks.{healthy-else}
 use Rattle.paths.specs.Path.{ahead}
+use Rattle.paths.proofs.Directions.{by-number}
 use Rattle.track.specs.Ports.{Wafer, Processor}
 use Rattle.track.specs.Follower.{processor-of}
 use Rattle.track.specs.Theorems.{Routed, holder, Cells-sit, Cells-alone}
 use Rattle.track.proofs.View.{Dir, still, south, north, east, west, tr, View, transposed, Planned}
 use Rattle.track.proofs.Walks.{Place, moved, placed}
-use Rattle.track.proofs.Rules.{processor-row, processor-column}
 use Rattle.track.proofs.Paths.{false-if, south-down, north-up, covered}
 use Rattle.track.proofs.FromPlan.{transposed-plan, untr}
-use Rattle.track.proofs.OnPath.{heading, by-heading}
-use Rattle.track.proofs.Held.{within, view-of, through-at, formed-of, planned-of}
+use Rattle.track.proofs.OnPath.{heading}
+use Rattle.track.proofs.Held.{view-of, through-at, formed-of, planned-of}
 
 -- where a cell moves to, by its path's direction
 moved-ahead : (d k l : ℕ) → ahead (position (suc k) (suc l)) d 1
     ≡ position (moved (heading d) (suc k) (suc l) .row) (moved (heading d) (suc k) (suc l) .col)
 moved-ahead d k l =
-    by-heading
+    by-number
     (λ z. ahead (position (suc k) (suc l)) z 1 ≡ position (moved (heading z) (suc k) (suc l) .row) (moved (heading z) (suc k) (suc l) .col)) d
-    (omega arith) (omega arith) (omega arith) (omega arith) (λ a b c e. rw (ne-eqb d 1 a, ne-eqb d 2 b, ne-eqb d 3 c, ne-eqb d 4 e))
+    (omega arith) (omega arith) (omega arith) (omega arith) (λ a b c e. rw (a, b, c, e))
 
 moved-stands : (n m k l : ℕ) → suc k ≤ n → suc l ≤ m → (d : Dir)
     → processor-at n m (moved d (suc k) (suc l) .row) (moved d (suc k) (suc l) .col) ≡ true
-moved-stands n m k l a b still = processor-row n m (suc k) (suc l) (omega arith) a (omega arith)
-moved-stands n m k l a b south = processor-column n m (suc (suc k)) (suc l) (omega arith) b (omega arith)
-moved-stands n m k l a b north = processor-column n m k (suc l) (omega arith) b (omega arith)
-moved-stands n m k l a b east = processor-row n m (suc k) (suc (suc l)) (omega arith) a (omega arith)
-moved-stands n m k l a b west = processor-row n m (suc k) l (omega arith) a (omega arith)
+moved-stands n m k l a b still = stands-between n m (suc k) (suc l) (omega arith) (omega arith) (inl (omega arith, a))
+moved-stands n m k l a b south = stands-between n m (suc (suc k)) (suc l) (omega arith) (omega arith) (inr (omega arith, b))
+moved-stands n m k l a b north = stands-between n m k (suc l) (omega arith) (omega arith) (inr (omega arith, b))
+moved-stands n m k l a b east = stands-between n m (suc k) (suc (suc l)) (omega arith) (omega arith) (inl (omega arith, a))
+moved-stands n m k l a b west = stands-between n m (suc k) l (omega arith) (omega arith) (inl (omega arith, a))
 
 moved-apart : (d : Dir) (k l k′ l′ : ℕ) → moved d (suc k) (suc l) .row ≡ moved d (suc k′) (suc l′) .row
     → moved d (suc k) (suc l) .col ≡ moved d (suc k′) (suc l′) .col → (suc k ≡ suc k′) × (suc l ≡ suc l′)
@@ -55,7 +57,7 @@ rests : (v : View) → Planned v → (k l : ℕ) → suc k ≤ v .rows → suc l
 rests v p k l a b still e =
     record {
       path-is = e;
-      healthy-is = false-if _ (λ t. covered v p (suc k) (suc l) (rw (le-leb 1 (suc k) (omega arith), le-leb (suc k) (v .rows) a, le-leb 1 (suc l) (omega arith), le-leb (suc l) (v .cols) b) tt) t e);
+      healthy-is = false-if _ (λ t. covered v p (suc k) (suc l) (rw (inner-between (v .rows) (v .cols) (suc k) (suc l) (omega arith) a (omega arith) b) tt) t e);
     }
 rests v p k l a b south e = let q = south-down v p (suc k) (suc l) a e in record { path-is = q .0; healthy-is = q .1 }
 rests v p k l a b north e = let q = north-up v p k (suc l) e in record { path-is = q .0; healthy-is = q .1 }
@@ -74,11 +76,10 @@ module _ (w : Wafer) (r : Routed w) (k l : ℕ) (hi : suc k ≤ w .rows) (hj : s
   stands-there : processor-at (w .rows) (w .columns) (place .row) (place .col) ≡ true
   stands-there = moved-stands (w .rows) (w .columns) k l hi hj (view-of w .path (suc k) (suc l))
 
-  pub low-column : place .col ≤ 31
-  low-column = omega (arith, within (w .rows) (w .columns) (place .row) (place .col) stands-there, formed-of w r .sizes)
-
-  pub low-row : place .row ≤ 31
-  low-row = omega (arith, within (w .rows) (w .columns) (place .row) (place .col) stands-there, formed-of w r .sizes)
+  low-place : (place .row ≤ 31) × (place .col ≤ 31)
+  low-place =
+      let b = processor-within (w .rows) (w .columns) (place .row) (place .col) stands-there in
+      (omega (arith, b, formed-of w r .sizes), omega (arith, b, formed-of w r .sizes))
 
   pub holder-is : holder w (suc k) (suc l) ≡ position (place .row) (place .col)
   holder-is =
@@ -87,10 +88,10 @@ module _ (w : Wafer) (r : Routed w) (k l : ℕ) (hi : suc k ≤ w .rows) (hj : s
       rw h (moved-ahead (through-at w (position (suc k) (suc l))) k l)
 
   pub row-is : row (holder w (suc k) (suc l)) ≡ place .row
-  row-is = ap row holder-is ∙ omega (arith, low-column)
+  row-is = ap row holder-is ∙ position-read (place .row) (place .col) (low-place .1) .0
 
   pub column-is : column (holder w (suc k) (suc l)) ≡ place .col
-  column-is = ap column holder-is ∙ omega (arith, low-column)
+  column-is = ap column holder-is ∙ position-read (place .row) (place .col) (low-place .1) .1
 
   pub processor-is : processor-of (holder w (suc k) (suc l)) ≡ Processor (place .row) (place .col)
   processor-is = rw (row-is, column-is)
@@ -102,7 +103,7 @@ module _ (w : Wafer) (r : Routed w) (k l : ℕ) (hi : suc k ≤ w .rows) (hj : s
   sits-there =
       let a : processor (w .rows) (w .columns) (holder w (suc k) (suc l)) ≡ true = rw (row-is, column-is) stands-there in
       let f : faulty (w .grid) (holder w (suc k) (suc l)) ≡ false = rw holder-is (rests-there .healthy-is) in
-      let b = formed-of w r .marks (holder w (suc k) (suc l)) (omega (arith, holder-is, low-row, low-column)) in
+      let b = formed-of w r .marks (holder w (suc k) (suc l)) (omega (arith, holder-is, low-place)) in
       (a, healthy-else (mark-at (w .grid) (holder w (suc k) (suc l))) (rw a at b) f)
 
 pub sits : Cells-sit

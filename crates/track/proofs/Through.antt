@@ -1,6 +1,6 @@
 -- The direction of the path through a position is that of a fault whose path has it, wherever some fault's path has it.
 -- Assumes nothing.
-use mathlib.Core.Path.{_≡_, refl, sym, ap, _∙_}
+use mathlib.Core.Path.{_≡_, refl, sym, _∙_}
 use mathlib.Core.Bool.{Bool, true, false}
 use mathlib.Core.List.{List, [], _∷_}
 use mathlib.Core.Logic.{_⊎_, inl, inr, ⊎-elim}
@@ -12,17 +12,6 @@ use Rattle.array.proofs.Bools.{by-bool}
 use Rattle.paths.specs.Path.{path, member}
 use Rattle.plans.specs.Faults.{directions-at, paired}
 use Rattle.track.specs.Placement.{through}
-
-pub length-directions : (ds ps : List ℕ) → length (directions-at ds ps) ≡ length ps
-unfolding directions-at
-length-directions ds [] = refl
-length-directions ds (p ∷ ps) = ap suc (length-directions ds ps)
-
-pub direction-at : (ds ps : List ℕ) (k : ℕ) → k < length ps → getD (directions-at ds ps) k 0 ≡ getD ds (getD ps k 0) 0
-unfolding directions-at
-direction-at ds [] k h = absurd (not-suc-le-zero h)
-direction-at ds (p ∷ ps) zero h = refl
-direction-at ds (p ∷ ps) (suc k) h = direction-at ds ps k (le-of-suc-le-suc h)
 
 -- a fault of the list whose path, of direction d, has q on it
 pub record Passing (n m : ℕ) (ds ps : List ℕ) (q d : ℕ) : Type 0 where

@@ -9,14 +9,15 @@ use borrow.Author.Tests.{eqb-true}
 use lib.Dec.{T, eqb}
 use Rattle.array.specs.Place.{position, row, column, processor-at}
 use Rattle.array.proofs.Bools.{and-true, or-true}
+use Rattle.array.proofs.Places.{processor-within}
 use Rattle.track.specs.Letters.{letters, entry, across-exists, down-exists}
 use Rattle.track.specs.Theorems.{printed-x, Two-or-three, vertical-of, horizontal-of, Few-x-entries}
 use Rattle.track.proofs.View.{transposed}
 use Rattle.track.proofs.Walks.{State, state-number, vertical}
-use Rattle.track.proofs.Cross.{beside, all, all-at, given, use-given, and-intro}
+use Rattle.track.proofs.Cross.{beside, all, pairs-at, given, use-given, and-intro}
 use Rattle.track.proofs.Paths.{true-if}
 use Rattle.track.proofs.FromPlan.{near, transposed-plan}
-use Rattle.track.proofs.Held.{view-of, within, formed-of, planned-of, vertical-held, horizontal-held}
+use Rattle.track.proofs.Held.{view-of, formed-of, planned-of, vertical-held, horizontal-held}
 
 abbrev two-or-three : ℕ → ℕ → Bool
 two-or-three a b = (eqb a 2 && eqb b 2) || (eqb a 3 && eqb b 3)
@@ -40,7 +41,7 @@ only-x s t h e =
     told-apart (state-number s) (state-number t)
     (true-if _
     (use-given (beside s t && printed-x (state-number s) (state-number t)) (two-or-three (state-number s) (state-number t))
-    (all-at (λ t. x-test s t) (all-at (λ s. all (λ t. x-test s t)) x-everywhere s) t)
+    (pairs-at x-test x-everywhere s t)
     (and-intro (beside s t) (printed-x (state-number s) (state-number t)) h (rw e tt))))
 
 -- states that are those of the view
@@ -55,7 +56,7 @@ x-entries w r = record { at-across = at-across; at-down = at-down }
     at-across p h =
         let v = view-of w in
         let a = and-true (processor-at (w .rows) (w .columns) (row p) (column p)) (processor-at (w .rows) (w .columns) (row p) (column p + 1)) h in
-        let b = within (w .rows) (w .columns) (row p) (column p + 1) (a .1) in
+        let b = processor-within (w .rows) (w .columns) (row p) (column p + 1) (a .1) in
         let s = formed-of w r .sizes in
         let e : position (row p) (column p) ≡ p = omega arith in
         let f : position (row p) (suc (column p)) ≡ p + 1 = omega arith in

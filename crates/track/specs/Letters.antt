@@ -1,4 +1,5 @@
 -- Document 01, "Placement and routing": routing states, the table of letters, and the two switch buffers.
+-- Kung, Jean, Chang, "Fault-Tolerant Array Processors Using Single-Track Switches": the states are its Table I, the letters its Table II.
 -- Assumes nothing.
 use Prim.Native.Nat.{ℕ, _+_, _*_}
 use mathlib.Core.Bool.{Bool, cond, _&&_}
@@ -12,8 +13,8 @@ use Rattle.plans.specs.Faults.{directed-faults}
 use Rattle.plans.specs.declared.Fault.{Fault}
 use Rattle.track.specs.Placement.{through}
 
--- The vertical routing state, from the direction of the path through a processor and whether it is faulty: 1 and 2 on a south path, 4 and 3
--- on a north path, the second of each at its fault; 0 where no vertical path is.
+-- The vertical routing state (Table I), from the direction of the path through a processor and whether it is faulty: 1 and 2 on a
+-- south path, 4 and 3 on a north path, the second of each at its fault; 0 where no vertical path is.
 abbrev pub vertical : ℕ → Bool → ℕ
 vertical d fault = cond (eqb d 1) (cond fault 2 1) (cond (eqb d 2) (cond fault 3 4) 0)
 
@@ -38,7 +39,7 @@ d = 100
 abbrev pub x : ℕ
 x = 120
 
--- the table: west states 0 to 4 downward, east states 0 to 4 along each row
+-- the table (Table II): west states 0 to 4 downward, east states 0 to 4 along each row
 unfoldable pub letters : List ℕ
 letters =
     b ∷ c ∷ c ∷ d ∷ d
