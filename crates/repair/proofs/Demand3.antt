@@ -2,23 +2,21 @@
 -- Assumes nothing.
 use Prim.Native.Nat.{ℕ, _<_, _≤_}
 use mathlib.Core.Path.{_≡_, refl, sym, ap, subst, _∙_}
-use mathlib.Core.Bool.{Bool, true, false, cond, not, _&&_}
+use mathlib.Core.Bool.{Bool, true, cond, not, _&&_}
 use mathlib.Core.Logic.{_⊎_, inl, inr, ⊎-elim, _↔_}
 use mathlib.Core.List.{List, [], _∷_, List·Memᴰ}
 use native.Mathlib.Omega.{arith}
 use borrow.Author.Tests.{eq-eqb, le-leb, lt-ltb}
-use lib.Dec.{ltb}
 use lib.ListN.{length, getD}
-use Rattle.array.specs.Place.{position, row, column, inner, processor}
+use Rattle.array.specs.Place.{position, row, column, processor}
 use Rattle.array.specs.Buffer.{long, all-long, written, zeros, buffer}
-use Rattle.array.specs.Map.{healthy, faulty, mark-at}
+use Rattle.array.specs.Map.{healthy}
 use Rattle.array.specs.declared.Verdict.{Verdict}
 use Rattle.array.specs.declared.Verdict.the-variants.{Accepted}
-use Rattle.array.proofs.Bools.{and-true}
+use Rattle.array.proofs.Bools.{and-true, and-both}
 use Rattle.array.proofs.Verdicts.{accept-both, false-accepted}
 use Rattle.array.proofs.Fills.{tabulate-length}
 use Rattle.array.proofs.Formed.{formed, formed-lent, grid-and}
-use Rattle.array.proofs.Marks.{healthy-not-faulty}
 use Rattle.plans.specs.Faults.{faults, directions-at, paired}
 use Rattle.plans.specs.Plan.{Plan, Every-choice-blocked, First-plan}
 use Rattle.plans.specs.Check.{check-plan, plan-test}
@@ -33,12 +31,11 @@ use Rattle.track.specs.Letters.{across-letters, down-letters}
 use Rattle.track.specs.Ports.{Wafer, Compass, _at_}
 use Rattle.track.specs.Link.{Link}
 use Rattle.track.specs.Pieces.{Piece, pieces, Same}
-use Rattle.track.specs.Follower.{position-of, processor-of, out-of, followed, landing, cell-test}
+use Rattle.track.specs.Follower.{processor-of, out-of, followed, cell-test}
 use Rattle.track.specs.Theorems.{Routed, Cell, Neighbour, right, lower, holder}
 use Rattle.track.proofs.Theorem.{reaches, no-shared-piece}
 use Rattle.track.proofs.Seats.{sits, alone}
-use Rattle.track.proofs.Follows.{follower-own}
-use Rattle.track.proofs.Accepted.{switches-pass, placement-holds}
+use Rattle.track.proofs.Accepted.{inner-cell, neighbour-cell, followed-neighbour, switches-pass, placement-holds}
 use Rattle.repair.specs.Operations.{plan-repair, directions-after, place-cells, places-after, route-switches, across-after, down-after, link-tests, follow-link, answer-after, followed-after}
 use Rattle.repair.specs.Demand3.{Given, Good, answer, planned-directions, placing, places-held, routing, routed, following, paths, T-of, held, Reached, Neighbour-link, pieces-of, After-repaired, Demand3, Demand-3}
 use Rattle.repair.specs.declared.Answer.the-variants.{Planned}
@@ -201,16 +198,10 @@ module _ (g : Given) (good : Good g) where
     all-alone : (i j k l : ℕ) → Cell w i j → Cell w k l → held g i j ≡ held g k l → (i ≡ k) × (j ≡ l)
     all-alone i j k l c d e = alone w wafer-routed i j k l c d (sym (held-is i j c) ∙ e ∙ held-is k l d)
 
-    -- the cells at both ends of a link to a neighbour, and its side
+    -- the cell that a link to a neighbour leaves, and its side
     from-cell : (i j side k l : ℕ) (port : Compass) → Neighbour w i j side k l port → Cell w i j
     from-cell i j side k l port (right c h) = c
     from-cell i j side k l port (lower c h) = c
-
-    to-cell : (i j side k l : ℕ) (port : Compass) → Neighbour w i j side k l port → Cell w k l
-    to-cell i j side k l port (right c h) =
-        record { row-low = c .row-low; row-high = c .row-high; column-low = omega arith; column-high = omega arith }
-    to-cell i j side k l port (lower c h) =
-        record { row-low = omega arith; row-high = omega arith; column-low = c .column-low; column-high = c .column-high }
 
     side-small : (i j side k l : ℕ) (port : Compass) → Neighbour w i j side k l port → side < 2
     side-small i j side k l port (right c h) = omega arith
@@ -219,12 +210,7 @@ module _ (g : Given) (good : Good g) where
     -- 15 and 16 pass
     cell-passes : (i j side : ℕ) → Cell w i j → side < 2 → cell-test w (position i j) side ≡ Accepted
     cell-passes i j side c h =
-        let s = formed n m grid (good .map) .sizes in
-        let x : row (position i j) ≡ i = omega (arith, c .column-high, s .columns-high) in
-        let y : column (position i j) ≡ j = omega (arith, c .column-high, s .columns-high) in
-        let e : not (inner n m (position i j) && ltb side 2) ≡ false =
-        rw (x, y, le-leb 1 i (c .row-low), le-leb i n (c .row-high), le-leb 1 j (c .column-low), le-leb j m (c .column-high), lt-ltb side 2 h) in
-        false-accepted 15 0 0 e
+        false-accepted 15 0 0 (ap not (and-both _ _ (inner-cell w wafer-routed i j c) (lt-ltb side 2 h)))
 
     switches-long : all-long (w .across ∷ w .down ∷ []) ≡ true
     unfolding across-letters down-letters
@@ -240,16 +226,9 @@ module _ (g : Given) (good : Good g) where
         (accept-both (passes (w .across ∷ w .down ∷ []) switches-long)
         (accept-both (cell-passes i j side c h) (switches-pass w across-are down-are)))
 
-    -- a healthy processor is not faulty, and stands where its row and column say
-    not-faulty : (p : ℕ) → healthy grid p ≡ true → faulty grid (position-of (processor-of p)) ≡ false
-    not-faulty p h =
-        let e : position (row p) (column p) ≡ p = omega arith in
-        rw e (healthy-not-faulty (mark-at grid p) h)
-
     all-reach : (i j side k l : ℕ) (port : Compass) → Neighbour w i j side k l port → Reached g i j side k l port
     all-reach i j side k l port to =
         let c = from-cell i j side k l port to in
-        let d = to-cell i j side k l port to in
         let r = reaches w wafer-routed i j side k l port to in
         let e = processor-of (holder w k l) at port in
         let z : position (row (holder w k l)) (column (holder w k l)) ≡ holder w k l = omega arith in
@@ -260,17 +239,8 @@ module _ (g : Given) (good : Good g) where
           ends = r .ends;
           own =
               follow-accepted i j side c (side-small i j side k l port to)
-              ∙ follower-own .answers w (position i j) side (landing (r .link) e)
-              (record {
-                link = r .link;
-                is-link = r .is-link;
-                end = e;
-                ends = r .ends;
-                healthy-end = not-faulty (holder w k l) (sits w wafer-routed k l d .1);
-                few = r .few;
-                is = refl;
-              });
-          at-neighbour = z ∙ sym (held-is k l d);
+              ∙ followed-neighbour w wafer-routed i j side k l port to r;
+          at-neighbour = z ∙ sym (held-is k l (neighbour-cell w i j side k l port to));
           by-port = refl;
           few = r .few;
         }

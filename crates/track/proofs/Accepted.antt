@@ -18,8 +18,9 @@ use Rattle.array.proofs.Verdicts.{false-accepted}
 use Rattle.track.specs.Placement.{placed-at, placement}
 use Rattle.track.specs.Letters.{letter, across-exists, down-exists, across-at, down-at, across-letters, down-letters, switch-byte}
 use Rattle.track.specs.Ports.{Wafer, Compass, _at_}
-use Rattle.track.specs.Follower.{processor-of, switch-test, landing}
-use Rattle.track.specs.Theorems.{Routed, Cell, holder, Neighbour, right, lower, Follower-arrives, Placement-holds, Switches-pass}
+use Rattle.track.specs.Follower.{processor-of, switch-test, landing, followed}
+use Rattle.track.specs.declared.Followed.the-variants.{Entered}
+use Rattle.track.specs.Theorems.{Routed, Cell, holder, Neighbour, right, lower, Reaches, Follower-arrives, Placement-holds, Switches-pass}
 use Rattle.track.proofs.View.{tr}
 use Rattle.track.proofs.Walks.{State, state, state-number}
 use Rattle.track.proofs.Cross.{all, pairs-at}
@@ -33,7 +34,7 @@ use Rattle.track.specs.Letters as letters
 use Rattle.track.specs.Link as link
 
 -- a cell is inner
-inner-cell : (w : Wafer) → Routed w → (i j : ℕ) → Cell w i j → inner (w .rows) (w .columns) (position i j) ≡ true
+pub inner-cell : (w : Wafer) → Routed w → (i j : ℕ) → Cell w i j → inner (w .rows) (w .columns) (position i j) ≡ true
 inner-cell w r i j c =
     let s = formed-of w r .sizes in
     let e = position-read i j (omega (arith, s, c)) in
@@ -87,31 +88,31 @@ switches-pass w a d =
     (ap (switch-byte (down-exists (w .rows) (w .columns) (row p) (column p))) y ∙ down-fits w p))))
 
 -- a neighbour is a cell
-neighbour-cell : (w : Wafer) (i j side k l : ℕ) (port : Compass) → Neighbour w i j side k l port → Cell w k l
+pub neighbour-cell : (w : Wafer) (i j side k l : ℕ) (port : Compass) → Neighbour w i j side k l port → Cell w k l
 neighbour-cell w i j side k l port (right c h) =
     record { row-low = c .row-low; row-high = c .row-high; column-low = omega arith; column-high = omega arith }
 neighbour-cell w i j side k l port (lower c h) =
     record { row-low = omega arith; row-high = omega arith; column-low = c .column-low; column-high = c .column-high }
 
+-- the follower tells of a link that reaches a neighbour
+pub followed-neighbour : (w : Wafer) → Routed w → (i j side k l : ℕ) (port : Compass) → Neighbour w i j side k l port
+    → (g : Reaches w i j side k l port) → followed w (position i j) side ≡ Entered (landing (g .link) (processor-of (holder w k l) at port))
+followed-neighbour w r i j side k l port h g =
+    let q = holder w k l in
+    let e : position (row q) (column q) ≡ q = omega arith in
+    follower-own .answers w (position i j) side (landing (g .link) (processor-of q at port))
+    (record {
+      link = g .link;
+      is-link = g .is-link;
+      end = processor-of q at port;
+      ends = g .ends;
+      healthy-end = rw e (healthy-not-faulty (mark-at (w .grid) q) (sits w r k l (neighbour-cell w i j side k l port h) .1));
+      few = g .few;
+      is = refl;
+    })
+
 pub follower-arrives : Follower-arrives
 follower-arrives w r i j side k l port h =
     let g = reaches w r i j side k l port h in
-    let c = neighbour-cell w i j side k l port h in
-    let q = holder w k l in
-    let e : position (row q) (column q) ≡ q = omega arith in
-    record {
-      passed = link.switches (g .link);
-      few = g .few;
-      answer =
-          follower-own .answers w (position i j) side (landing (g .link) (processor-of q at port))
-          (record {
-            link = g .link;
-            is-link = g .is-link;
-            end = processor-of q at port;
-            ends = g .ends;
-            healthy-end = rw e (healthy-not-faulty (mark-at (w .grid) q) (sits w r k l c .1));
-            few = g .few;
-            is = refl;
-          })
-          ∙ rw e;
-    }
+    let e : position (row (holder w k l)) (column (holder w k l)) ≡ holder w k l = omega arith in
+    record { passed = link.switches (g .link); few = g .few; answer = followed-neighbour w r i j side k l port h g ∙ rw e }

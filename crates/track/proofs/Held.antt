@@ -10,7 +10,7 @@ use native.Mathlib.Numerals.{add-one}
 use borrow.Author.Tests.{le-leb}
 use lib.Dec.{T, eqb, eqb→eq}
 use lib.ListN.{getD}
-use Rattle.array.specs.Place.{position, row, column, inner-at, inner, processor-at}
+use Rattle.array.specs.Place.{position, inner-at, inner, processor-at}
 use Rattle.array.specs.Map.{faulty}
 use Rattle.array.proofs.Bools.{and-true, and-none}
 use Rattle.array.proofs.Places.{inner-at-holds, processor-within, position-read}

@@ -2,8 +2,8 @@
 -- Assumes nothing.
 use Prim.Native.Nat.{ℕ, suc, _+_, _≤_, _<_}
 use native.Mathlib.Omega.{arith}
-use mathlib.Core.Path.{_≡_, refl, _∙_, sym, subst}
-use mathlib.Core.Bool.{Bool, true, false, _&&_, _||_, and-comm}
+use mathlib.Core.Path.{_≡_, refl, sym, subst}
+use mathlib.Core.Bool.{Bool, true, false, _||_, and-comm}
 use mathlib.Core.Logic.{inl, inr}
 use lib.Dec.{T, leb, eqb}
 use Rattle.array.specs.Place.{processor-at}
