@@ -18,6 +18,7 @@ use Rattle.array.proofs.Bools.{by-bool, by-lt, cond-taken, cond-left}
 use Rattle.array.proofs.Fills.{tabulate-length, tabulate-at}
 use Rattle.array.proofs.Formed.{Formed, formed}
 use Rattle.array.proofs.Marks.{mark-read}
+use Rattle.array.proofs.Scans.{scan-all}
 use Rattle.grids.specs.Text.{character, text}
 use Rattle.grids.specs.Reading.{Rows, rows-of, no-rows, Taken, taken, take-line, take-lines, trim, blank-letter, fault-letter, mark-of, grid-of, good-if, length-test, letter-test, position-test, rows-test, read-rows}
 use Rattle.grids.specs.Theorems.{Text-round-trip}
@@ -26,7 +27,7 @@ use Rattle.grids.specs.declared.Judged.the-variants as judged
 use Rattle.grids.specs.declared.TextRead.the-variants as reading
 use Rattle.grids.proofs.Marks.{grid-long, grid-at}
 use Rattle.grids.proofs.Rows.{row-taken, line-row, lines-none, lines-on, rows-read, text-rows}
-use Rattle.grids.proofs.Judging.{all-good, place-good}
+use Rattle.grids.proofs.Judging.{wrong-scan, place-good}
 use Rattle.grids.proofs.Stores.{sets-at, sets-other}
 use Rattle.grids.proofs.TextLines.{by-character, span-cons, trim-span-last, trim-span-kept, letter, row-list, text-lines}
 
@@ -252,7 +253,7 @@ module _ (n m : ℕ) (grid : List ℕ) (F : Formed n m grid) where
     unfolding rows-test
     all-rows-good =
         sym
-        (all-good (position-test n m (r .cells) (r .lengths) (r .lines)) 0 1024
+        (scan-all (wrong-scan (position-test n m (r .cells) (r .lengths) (r .lines)) 1024)
         (λ p l.
         place-good (leb (row p) (n + 1)) (eqb (column p) 0) _ _
         (λ t. length-good (row p) (getD (r .lines) (row p) 0) (getD (r .lines) 1 0) (leb-true (row p) (n + 1) t))

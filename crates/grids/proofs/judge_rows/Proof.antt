@@ -1,24 +1,25 @@
 -- `grids::judge_rows` meets its contract: nothing passed is wrong.
 -- Assumes nothing.
-use denote.Ref.{now}
-use Prim.Native.Nat.{_≤_, _-_}
-use mathlib.Core.Path.{_≡_, refl}
+use Prim.Native.Nat.{_-_}
 use native.Mathlib.Omega.{arith}
-use Rattle.grids.specs.Reading.{position-test, first-wrong, rows-test}
-use Rattle.grids.proofs.Judging.{wrong-none, wrong-found, wrong-later}
+use Rattle.array.proofs.Scans.{Seeking-of, seek-start, seek-stop, seek-pass, seek-none}
+use Rattle.grids.specs.Reading.{position-test, rows-test}
+use Rattle.grids.proofs.Judging.{judgements, wrong-from, wrong-scan}
 use borrow.Author.Needs.{needs}
 use Rattle.grids.proofs.judge_rows.Statement.{statement}
 use Rattle.grids.proofs.judge_rows.Tie as tie
 
 abbrev Inv-loop : tie.InvT-loop
-Inv-loop n m cells lengths lines p₀ p = (p ≤ 1024) × (rows-test n m cells lengths lines ≡ first-wrong (position-test n m cells lengths lines) p (1024 - p))
+Inv-loop n m cells lengths lines p₀ p =
+    let f = position-test n m cells lengths lines in
+    Seeking-of judgements f (wrong-from f 1024) 1024 p (rows-test n m cells lengths lines)
 
 abbrev μ-loop : tie.MeasureT-loop
 μ-loop n m cells lengths lines p₀ p = 1024 - p
 
 loop-holds : tie.Need-loop-holds Inv-loop μ-loop
 unfolding rows-test
-loop-holds c = (omega arith, refl)
+loop-holds c = seek-start (wrong-scan _ 1024) 0 (omega arith)
 
 element-copy-out-judge : tie.Need-element-copy-out-judge Inv-loop μ-loop
 element-copy-out-judge c = search needs
@@ -46,9 +47,8 @@ enum-told c = search needs
 
 returns : tie.Need-returns Inv-loop μ-loop
 returns c =
-    let a = c .before .before .before .before .before .before .before .before .before .args in
     let l = c .before .before .before .before .before .before .before .before .loop in
-    wrong-found (position-test (a .n) (a .m) (now (a .cells)) (now (a .lengths)) (now (a .lines))) 1024 (l .p) (l .inv .1) (omega arith) (c .before .before .judge .ensures) (c .enum-told .given .1)
+    seek-stop (l .inv) (omega arith) (c .before .before .judge .ensures) (c .enum-told .given .1)
 
 enum-told-2 : tie.Need-enum-told-2 Inv-loop μ-loop
 enum-told-2 c = search needs
@@ -61,15 +61,11 @@ loop-less c = search needs
 
 loop-again : tie.Need-loop-again Inv-loop μ-loop
 loop-again c =
-    let a = c .before .before .before .before .before .before .before .before .before .args in
     let l = c .before .before .before .before .before .before .before .before .loop in
-    (omega arith, wrong-later (position-test (a .n) (a .m) (now (a .cells)) (now (a .lengths)) (now (a .lines))) 1024 (l .p) (l .inv .1) (omega arith) (c .before .before .judge .ensures) (c .enum-told2 .given .1))
+    seek-pass (l .inv) (omega arith) (c .before .before .judge .ensures) (c .enum-told2 .given .1)
 
 returns-2 : tie.Need-returns-2 Inv-loop μ-loop
-returns-2 c =
-    let a = c .before .before .args in
-    let l = c .before .loop in
-    wrong-none (position-test (a .n) (a .m) (now (a .cells)) (now (a .lengths)) (now (a .lines))) 1024 (l .p) (l .inv .1) (omega arith)
+returns-2 c = seek-none (c .before .loop .inv) (omega arith)
 
 pub judge-rows-spec : {M : Type 1} → statement M
 judge-rows-spec =
