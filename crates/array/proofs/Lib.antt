@@ -11,3 +11,4 @@ pub mod Answers
 pub mod Marks
 pub mod Maps
 pub mod Formed
+pub mod Numbered

@@ -1,6 +1,6 @@
 -- Document 01, "Numbers returned": a refusal, tests in order, and the first offender.
 -- Assumes nothing.
-use Prim.Native.Nat.{ℕ, suc}
+use Prim.Native.Nat.{ℕ, suc, _≤_}
 use mathlib.Core.Path.{_≡_}
 use mathlib.Core.Bool.{Bool, cond}
 use mathlib.Core.List.{List, [], _∷_}
@@ -49,6 +49,15 @@ refuses-as r = refuses (r .number) (r .place) (r .second)
 abbrev pub told : Verdict → Told
 told Accepted = accepts []
 told (Refused r) = refuses-as r
+
+-- document 01's numbers are 1 to this one
+abbrev pub last-number : ℕ
+last-number = 18
+
+-- no refusal, or one with such a number
+abbrev pub Numbered : Told → Type 0
+Numbered (accepts values) = Unit {0}
+Numbered (refuses k p q) = (1 ≤ k) × (k ≤ last-number)
 
 -- the statement that a definition such as `told` loses nothing of an answer
 abbrev pub Loses-nothing : {A : Type 0} → (A → Told) → Type 0

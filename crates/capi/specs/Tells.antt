@@ -1,12 +1,12 @@
 -- The flat structs lose nothing of the answers: the statement, for every operation. A caller reads a struct by its number: 0 is an accepted call
--- with its values, any other a refusal with its places. That gives back what the answer tells, since a refusal's number is 1 to 18.
+-- with its values, any other a refusal with its places. That gives back what the answer tells, since a refusal's number is not 0.
 -- Assumes nothing.
-use Prim.Native.Nat.{ℕ, _-_, _≤_}
+use Prim.Native.Nat.{ℕ, _-_}
 use mathlib.Core.Path.{_≡_}
 use mathlib.Core.Bool.{cond}
 use mathlib.Core.List.{List, [], _∷_}
 use lib.Dec.{eqb}
-use Rattle.array.specs.Tests.{Told, accepts, refuses}
+use Rattle.array.specs.Tests.{Told, accepts, refuses, Numbered}
 use Rattle.plans.specs.Check.{check-plan}
 use Rattle.lists.specs.FaultList.{check-fault-list}
 use Rattle.plans.specs.declared.Fault.{Fault}
@@ -56,11 +56,6 @@ head-tells r = by-number (r .number) (r .place) (r .second) (r .rows ∷ r .colu
 
 abbrev pub length-tells : ChantspruceLength → Told
 length-tells r = by-number (r .number) (r .place) (r .second) (r .length ∷ [])
-
--- document 01's numbers are 1 to 18
-abbrev pub Numbered : Told → Type 0
-Numbered (accepts values) = Unit {0}
-Numbered (refuses k p q) = (1 ≤ k) × (k ≤ 18)
 
 -- an answer x, what it tells, its flat struct, and what that tells: the same, with a number of document 01 where it is a refusal
 pub record Kept {A B : Type 0} (told : A → Told) (flat : A → B) (tells : B → Told) (x : A) : Type 0 where

@@ -1,3 +1,4 @@
 pub mod Cases
 pub mod Answers
 pub mod Trip
+pub mod Numbered

@@ -5,3 +5,4 @@ pub mod Meeting
 pub mod Clashes
 pub mod Opens
 pub mod Directions
+pub mod Numbered

@@ -4,3 +4,4 @@ pub mod ByPosition
 pub mod Planned
 pub mod Accepts
 pub mod Tested
+pub mod Numbered

@@ -2,3 +2,4 @@ pub mod Cells
 pub mod Calls
 pub mod Demand3
 pub mod Answers
+pub mod Numbered

@@ -3,3 +3,4 @@ pub mod Runs
 pub mod Records
 pub mod Accepted
 pub mod Within
+pub mod Numbered

@@ -1,0 +1,50 @@
+-- The numbers of the readers, 1, 2 and 8 to 13, are document 01's.
+-- Assumes nothing.
+use Prim.Native.Nat.{ℕ, zero, suc}
+use mathlib.Core.List.{List, [], _∷_}
+use Rattle.array.specs.Tests.{Told, accepts, refuses-as}
+use Rattle.array.proofs.Numbered.{Numbered-as, numbers}
+use Rattle.formats.specs.declared.Kind.{Kind}
+use Rattle.formats.specs.declared.Kind.the-variants.{Map, Plan}
+use Rattle.formats.proofs.Numbered.{number-numbered, numbered-read, size-at-numbered}
+use Rattle.readers.specs.Reading.{told, record-at, and-then, records-at, whole-file, read-file}
+use Rattle.readers.specs.declared.Head.{Head}
+use Rattle.readers.specs.declared.Step.{Step}
+use Rattle.readers.specs.declared.FileRead.{FileRead}
+use Rattle.readers.specs.declared.Step.the-variants as step
+
+abbrev step-told : Step × List ℕ → Told
+step-told (step.Next at, b) = accepts (at ∷ [])
+step-told (step.Refused r, b) = refuses-as r
+
+abbrev file-told : FileRead × List ℕ → Told
+file-told x = told (x .0)
+
+record-numbered : (kind : Kind) (s : List ℕ) (n m at : ℕ) (b : List ℕ)
+    → Numbered-as step-told (record-at kind s n m at b)
+unfolding record-at
+record-numbered Map s n m at b = search (numbers, numbered-read, number-numbered) depth 9
+record-numbered Plan s n m at b = search (numbers, numbered-read, number-numbered) depth 9
+
+numbered-then : (x : Step × List ℕ) {f : ℕ → List ℕ → Step × List ℕ} → Numbered-as step-told x
+    → ((at : ℕ) (b : List ℕ) → Numbered-as step-told (f at b)) → Numbered-as step-told (and-then x f)
+numbered-then (step.Next at, b) h g = g at b
+numbered-then (step.Refused r, b) h g = h
+
+records-numbered : (kind : Kind) (s : List ℕ) (n m k at : ℕ) (b : List ℕ)
+    → Numbered-as step-told (records-at kind s n m k at b)
+unfolding records-at
+records-numbered kind s n m zero at b = search numbers
+records-numbered kind s n m (suc k) at b =
+    numbered-then (record-at kind s n m at b) (record-numbered kind s n m at b)
+    (λ next d. records-numbered kind s n m k next d)
+
+numbered-whole : (s : List ℕ) (head : Head) (lent : List ℕ) (x : Step × List ℕ) → Numbered-as step-told x
+    → Numbered-as file-told (whole-file s head lent x)
+numbered-whole s head lent (step.Next at, b) h = search numbers
+numbered-whole s head lent (step.Refused r, b) h = record { numbered = h .numbered }
+
+pub file-numbered : (kind : Kind) (s lent : List ℕ) → Numbered-as file-told (read-file kind s lent)
+unfolding read-file
+file-numbered kind s lent =
+    search (numbers, numbered-read, number-numbered, size-at-numbered, numbered-whole, records-numbered) depth 9
