@@ -50,7 +50,7 @@ route-requires c κs =
     let m = tested-map (a .n) (a .m) _ (now (a .grid)) (now (a .directions)) p in
     let d = tested-directions (a .n) (a .m) _ (now (a .grid)) (now (a .directions)) p (λ h. front-long (now (a .grid)) (now (a .directions)) (long (now (a .across)) && long (now (a .down))) h) in
     let l = back-long (now (a .grid)) (now (a .directions)) (now (a .across)) (now (a .down)) (m .lengths) in
-    (d, l .0, l .1)
+    (d, search l, search l)
 
 same-length : tie.Need-same-length
 same-length c = search needs
