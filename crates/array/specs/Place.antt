@@ -1,4 +1,4 @@
--- Document 01, "The array": positions, sizes, inner processors, spares and corners. n and m are document 01's N and M.
+-- Document 01, "The array": positions, sizes, processors and corners. n and m are document 01's N and M.
 -- Assumes nothing.
 use Prim.Native.Nat.{ℕ, _+_, _*_, _/_, _%_}
 use mathlib.Core.Bool.{Bool, not, _&&_, _||_}
@@ -26,7 +26,7 @@ inner-at n m x y = (leb 1 x && leb x n) && (leb 1 y && leb y m)
 abbrev pub corner-at : ℕ → ℕ → ℕ → ℕ → Bool
 corner-at n m x y = (eqb x 0 || eqb x (n + 1)) && (eqb y 0 || eqb y (m + 1))
 
--- processors stand in rows 0 to N+1 and columns 0 to M+1, but not at the four corners
+-- processors stand in rows 0 to N+1 and columns 0 to M+1, but not at the four corners; those that aren't inner are the spares
 abbrev pub processor-at : ℕ → ℕ → ℕ → ℕ → Bool
 processor-at n m x y = (leb x (n + 1) && leb y (m + 1)) && not (corner-at n m x y)
 
@@ -36,7 +36,3 @@ inner n m p = inner-at n m (row p) (column p)
 
 abbrev pub processor : ℕ → ℕ → ℕ → Bool
 processor n m p = processor-at n m (row p) (column p)
-
--- the processors that are not inner
-abbrev pub spare : ℕ → ℕ → ℕ → Bool
-spare n m p = processor n m p && not (inner n m p)

@@ -87,7 +87,7 @@ pub fn is_inner_fault(n: usize, m: usize, p: usize, mark: u8) -> bool
     is_inner(n, m, p) & is_faulty(mark)
 }
 
-pub fn is_allowed(n: usize, m: usize, p: usize, mark: u8) -> bool
+fn is_allowed(n: usize, m: usize, p: usize, mark: u8) -> bool
     requires { ⌜ (n ≤ 30) × (m ≤ 30) ⌝ }
     ensures { λ r. ⌜ r ≡ allowed n m p mark ⌝ }
 {

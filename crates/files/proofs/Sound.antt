@@ -11,7 +11,7 @@ use lib.ListN.{length, getD, set, length-set}
 use lib.Seq.{getD-set-same, getD-set-other}
 use borrow.Author.Tests.{leb-true, le-leb, eqb-true, le-ltb, eq-eqb, ne-eqb}
 use Rattle.array.specs.Place.{row, column, position, size, processor, inner}
-use Rattle.array.specs.Buffer.{span, buffer, positions-along}
+use Rattle.array.specs.Buffer.{span, positions-along}
 use Rattle.array.specs.Map.{faulty-mark, allowed}
 use Rattle.array.specs.declared.Refusal.{Refusal}
 use Rattle.array.specs.declared.Verdict.the-variants.{Accepted}

@@ -147,7 +147,7 @@ fn is_standing(n: usize, m: usize, kind: u8, x: usize, y: usize) -> bool
 }
 
 // Inner part: the port at the other end of the stretch from a port.
-pub fn stretch_from(n: usize, m: usize, port: Port) -> Stretch
+fn stretch_from(n: usize, m: usize, port: Port) -> Stretch
     requires { ⌜ (n ≤ 30) × (m ≤ 30) × Sound-port port ⌝ }
     ensures { λ r. ⌜ Stretches n m port r ⌝ }
 {
@@ -210,7 +210,7 @@ fn processor_join(n: usize, m: usize, p: usize, mark: u8, direction: u8, side: u
 }
 
 // Inner part: what is inside at the port by which a node is entered.
-pub fn inside_at(
+fn inside_at(
     n: usize,
     m: usize,
     grid: &[u8],

@@ -16,7 +16,6 @@ use Rattle.trials.specs.Search.{planned, outcome, directions-written}
 use Rattle.repair.specs.Operations.{plan-repair-test, plan-repair, directions-after}
 use Rattle.repair.specs.declared.Answer.the-variants as answer
 use Rattle.formats.specs.declared.Kind.the-variants.{Map}
-use Rattle.readers.specs.declared.FileRead.the-variants as reader
 use Rattle.writers.specs.Writing.{buffer-test}
 use Rattle.files.proofs.Sound.{sound-reading}
 use Rattle.listing.specs.Listing.{limit, map-lines, file-lines, listing, Maps-listed}

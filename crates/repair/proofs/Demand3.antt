@@ -72,10 +72,6 @@ module _ (g : Given) (good : Good g) where
   unfolding directions-after
   directions-are = ap (λ (v : Verdict). written v (directions-written (g .limit) (faults (g .n) (g .m) (g .grid)) search) (g .directions)) map-passes
 
-  is-T : T-of g ≡ count search
-  unfolding T
-  is-T = refl
-
   -- the planner's outcome
   spent-when : (answer g ≡ Planned (Spent (g .limit))) ↔ (g .limit < T-of g)
   unfolding T
