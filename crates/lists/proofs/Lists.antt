@@ -20,7 +20,7 @@ use Rattle.array.proofs.Bools.{and-true, or-false, by-lt}
 use Rattle.array.proofs.Places.{inner-holds}
 use Rattle.array.proofs.Verdicts.{both-accepted, accept-both, accepted-false, false-accepted}
 use Rattle.array.proofs.Formed.{formed}
-use Rattle.plans.specs.Faults.{faults, fault, paired}
+use Rattle.plans.specs.Faults.{faults, paired}
 use Rattle.plans.specs.Check.{paths-test}
 use Rattle.plans.specs.Inner.{Starts}
 use Rattle.plans.specs.declared.Fault.{Fault}

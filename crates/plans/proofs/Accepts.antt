@@ -1,7 +1,7 @@
 -- The plan check accepts plans and nothing else.
 -- Assumes nothing.
-use mathlib.Core.Path.{_≡_, refl, sym, ap, _∙_}
-use mathlib.Core.Bool.{Bool, true, false, not, _&&_, _||_}
+use mathlib.Core.Path.{_≡_, sym, ap, _∙_}
+use mathlib.Core.Bool.{Bool, true, false, _&&_, _||_}
 use mathlib.Core.List.{List}
 use Prim.Native.Nat.{ℕ, _<_, _≤_}
 use native.Mathlib.Omega.{arith}
@@ -27,14 +27,11 @@ use Rattle.plans.proofs.Pairing.{directions-length, direction-at}
 use Rattle.plans.proofs.Facts.{fault-starts}
 use Rattle.plans.proofs.Planned.{paths-plan, plan-paths}
 
--- a direction that is not wrong off the inner faults is 0, and the other way round
+-- a direction that is not wrong off the inner faults is 0
 off-fault : (d : ℕ) → wrong-direction false d ≡ false → d ≡ 0
 off-fault d h =
     let x = or-false (ltb 4 d || (false && eqb d 0)) _ h in
     eqb-true d 0 (not-false _ (x .1))
-
-zero-right : wrong-direction false 0 ≡ false
-zero-right = refl
 
 straight-right : (d : ℕ) → 1 ≤ d → d ≤ 4 → wrong-direction true d ≡ false
 straight-right d l h =
