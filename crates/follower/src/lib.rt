@@ -16,35 +16,35 @@ ghost use Rattle.track.specs.Follower.{refused, judged, out-of, switches-test};
 ghost use Rattle.follower.specs.Inner.{Ready, compass, node, node-of, port-of, Sound-port, opposite, kind-beyond, beyond, before-all, along, Neighbours, Stretches, joining, straight-joins, switch-joins, processor-joins, Finds, fourth, Sound-walk, Steps, passing, entering, leaving, switches-allowed};
 
 // A port: of a processor (kind 0), an across switch (1) or a down switch (2), by its row and column, on a side (W, E, N, S are 0 to 3).
-pub struct Port {
-    pub kind: u8,
-    pub row: usize,
-    pub column: usize,
-    pub side: u8,
+struct Port {
+    kind: u8,
+    row: usize,
+    column: usize,
+    side: u8,
 }
 
 // Where a stretch leads.
-pub enum Stretch {
+enum Stretch {
     To(Port),
     Nothing,
 }
 
 // What is inside at the port by which a node is entered: the end of a link, a join to the port on a side, or nothing.
-pub enum Inside {
+enum Inside {
     Ends,
     On(u8),
     Stops,
 }
 
 // A link followed so far: the port it goes on from, where it was last (a switch, or at first the cell's processor), and how many switches it has passed.
-pub struct Walk {
-    pub port: Port,
-    pub last: usize,
-    pub passed: u8,
+struct Walk {
+    port: Port,
+    last: usize,
+    passed: u8,
 }
 
 // A link followed one node further.
-pub enum Step {
+enum Step {
     Go(Walk),
     Done(Followed),
 }

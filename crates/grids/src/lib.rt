@@ -45,19 +45,19 @@ pub enum TextRead {
 }
 
 // What is known after some lines: how many rows there were, and the first blank line after them, 0 if there is none.
-pub struct Seen {
-    pub rows: usize,
-    pub blank: usize,
+struct Seen {
+    rows: usize,
+    blank: usize,
 }
 
 // What a line leads to.
-pub enum Step {
+enum Step {
     Next(Seen),
     Wrong(Wrong),
 }
 
 // What a test of the rows answers.
-pub enum Judged {
+enum Judged {
     Good,
     Wrong(Wrong),
 }

@@ -3,10 +3,10 @@
 use crate::buffers;
 
 // A search: how many trials are made, how many are allowed, and its state: 0 goes on, 1 has a plan, 2 is stopped by the limit.
-pub struct Search {
-    pub made: u32,
-    pub limit: u32,
-    pub state: u8,
+struct Search {
+    made: u32,
+    limit: u32,
+    state: u8,
 }
 
 // The paths that are kept: masks 0 to 31 have the processors taken in each row; masks 32d + i have the starts of the paths in direction d on line i.
