@@ -38,165 +38,152 @@ fn letter_moved(from: usize, to: usize) -> u8 {
 }
 
 // The symbol of two letters, at a position.
-fn symbol(out: &mut [u8], at: usize, first: u8, second: u8, p: usize) -> usize {
+fn symbol(first: u8, second: u8, p: usize) {
     let values = [
         first as usize,
         second as usize,
         wafer::units(p % 32),
         wafer::units(p / 32),
     ];
-    output::form(out, at, b"<use xlink:href='#$$' x='@' y='@'/>\n", &values)
+    output::form(b"<use xlink:href='#$$' x='@' y='@'/>\n", &values);
 }
 
 // The number of p's column, above the first row.
-fn column_label(out: &mut [u8], at: usize, grid: &[u8], p: usize) -> usize {
+fn column_label(grid: &[u8], p: usize) {
     if (p / 32 == 0) & wafer::has_processor(grid, p % 32 + 32) {
-        let values = [wafer::units(p), p];
-        return output::form(out, at, b"<text x='@' y='-36'>@</text>\n", &values);
+        output::form(b"<text x='@' y='-36'>@</text>\n", &[wafer::units(p), p]);
     }
-    at
 }
 
 // The number of p's row, before the first column.
-fn row_label(out: &mut [u8], at: usize, grid: &[u8], p: usize) -> usize {
+fn row_label(grid: &[u8], p: usize) {
     if (p % 32 == 0) & wafer::has_processor(grid, p / 32 * 32 + 1) {
         let values = [wafer::units(p / 32), p / 32];
-        return output::form(out, at, b"<text x='-40' y='@'>@</text>\n", &values);
+        output::form(b"<text x='-40' y='@'>@</text>\n", &values);
     }
-    at
 }
 
 // The numbers of the rows along the left edge and of the columns along the upper one.
-fn labels(out: &mut [u8], at: usize, grid: &[u8], p: usize) -> usize {
-    let second = column_label(out, at, grid, p);
-    row_label(out, second, grid, p)
+fn labels(grid: &[u8], p: usize) {
+    column_label(grid, p);
+    row_label(grid, p);
 }
 
 // A line from the processor at p, where there is one.
-fn track(out: &mut [u8], at: usize, on: bool, p: usize, line: &[u8]) -> usize {
+fn track(on: bool, p: usize, line: &[u8]) {
     if on {
-        let values = [wafer::units(p % 32), wafer::units(p / 32)];
-        let second = output::form(out, at, b"M@ @", &values);
-        return output::text(out, second, line);
+        output::form(b"M@ @", &[wafer::units(p % 32), wafer::units(p / 32)]);
+        output::text(line);
     }
-    at
 }
 
 // The tracks on both sides of the switches filed under p, and from these switches to the next ones of their channels.
-fn tracks(out: &mut [u8], at: usize, m: usize, grid: &[u8], p: usize) -> usize {
+fn tracks(m: usize, grid: &[u8], p: usize) {
     let across = wafer::has_across(m, grid, p);
     let down = wafer::has_down(grid, p);
-    let second = track(out, at, across, p, b"h72");
-    let third = track(out, second, down, p, b"v72");
-    let fourth = track(
-        out,
-        third,
+    track(across, p, b"h72");
+    track(down, p, b"v72");
+    track(
         across & wafer::has_across(m, grid, p % 1024 + 32),
         p,
         b"m36 0v72",
     );
     track(
-        out,
-        fourth,
         down & (wafer::has_down(grid, p % 1024 + 1) & (p % 32 <= m)),
         p,
         b"m0 36h72",
-    )
+    );
 }
 
-// The path from p, where its direction is d, to the middle of its spare.
-fn path(out: &mut [u8], at: usize, n: usize, m: usize, p: usize, direction: u8, d: u8) -> usize {
-    if direction != d {
-        return at;
-    }
-    let x = wafer::units(p % 32);
-    let y = wafer::units(p / 32);
+// The coordinate along its axis at which a path ends.
+fn end_of(n: usize, m: usize, d: u8) -> usize {
     match d {
-        1 => output::form(out, at, b"M@ @V@", &[x, y, wafer::last_units(n)]),
-        2 => output::form(out, at, b"M@ @V0", &[x, y]),
-        3 => output::form(out, at, b"M@ @H@", &[x, y, wafer::last_units(m)]),
-        _ => output::form(out, at, b"M@ @H0", &[x, y]),
+        1 => wafer::last_units(n),
+        3 => wafer::last_units(m),
+        _ => 0,
     }
 }
 
-// The arrowhead of the path from p, where its direction is d, at its spare.
-fn head(out: &mut [u8], at: usize, n: usize, m: usize, p: usize, direction: u8, d: u8) -> usize {
-    if direction != d {
-        return at;
-    }
+// The letter of a line along the axis of a direction.
+fn axis_of(d: u8) -> u8 {
+    if d < 3 { b'V' } else { b'H' }
+}
+
+// The path from p in direction d to the middle of its spare.
+fn path(n: usize, m: usize, p: usize, d: u8) {
+    let values = [
+        wafer::units(p % 32),
+        wafer::units(p / 32),
+        axis_of(d) as usize,
+        end_of(n, m, d),
+    ];
+    output::form(b"M@ @$@", &values);
+}
+
+// The arrowhead of the path from p in direction d, at its spare.
+fn head(n: usize, m: usize, p: usize, d: u8) {
     let x = wafer::units(p % 32);
     let y = wafer::units(p / 32);
+    let end = end_of(n, m, d);
     match d {
-        1 => output::form(out, at, b"M@ @m0-4l-25-25h50z", &[x, wafer::last_units(n)]),
-        2 => output::form(out, at, b"M@ 4l-25 25h50z", &[x]),
-        3 => output::form(out, at, b"M@ @m-4 0l-25-25v50z", &[wafer::last_units(m), y]),
-        _ => output::form(out, at, b"M4 @l25-25v50z", &[y]),
+        1 => output::form(b"M@ @m0-4l-25-25h50z", &[x, end]),
+        2 => output::form(b"M@ 4l-25 25h50z", &[x]),
+        3 => output::form(b"M@ @m-4 0l-25-25v50z", &[end, y]),
+        _ => output::form(b"M4 @l25-25v50z", &[y]),
+    }
+}
+
+// The second letter of the symbol of a fault, by what its path joins.
+fn joined(direction: u8) -> u8 {
+    match direction {
+        0 => b'o',
+        1 | 2 => b'v',
+        _ => b'h',
     }
 }
 
 // The processor at p: inner, spare, or a fault with what its path joins.
-fn processor(
-    out: &mut [u8],
-    at: usize,
-    n: usize,
-    m: usize,
-    mark: u8,
-    direction: u8,
-    p: usize,
-) -> usize {
+fn processor(n: usize, m: usize, mark: u8, direction: u8, p: usize) {
     if mark == 1 {
-        return match direction {
-            0 => symbol(out, at, b'f', b'o', p),
-            1 | 2 => symbol(out, at, b'f', b'v', p),
-            _ => symbol(out, at, b'f', b'h', p),
-        };
+        symbol(b'f', joined(direction), p);
     }
-    if mark == 2 {
-        return at;
+    if mark == 0 {
+        if array::is_inner(n, m, p) {
+            symbol(b'p', b'i', p);
+        } else {
+            symbol(b's', b'p', p);
+        }
     }
-    if array::is_inner(n, m, p) {
-        return symbol(out, at, b'p', b'i', p);
-    }
-    symbol(out, at, b's', b'p', p)
 }
 
 // The processor that holds the cell of p, where the cell moved.
-fn moved(out: &mut [u8], at: usize, p: usize, place: usize) -> usize {
-    if (place == 0) | (place == p) {
-        return at;
+fn moved(p: usize, place: usize) {
+    if (place != 0) & (place != p) {
+        symbol(b'm', letter_moved(p, place), place);
     }
-    symbol(out, at, b'm', letter_moved(p, place), place)
 }
 
 // A switch, where there is one, with its letter, where it has one.
-fn switch(out: &mut [u8], at: usize, on: bool, kind: u8, letter: u8, p: usize) -> usize {
-    if !on {
-        return at;
+fn switch(on: bool, kind: u8, letter: u8, p: usize) {
+    if on {
+        let second = if letter == 0 { b'o' } else { letter };
+        symbol(kind, second, p);
     }
-    if letter == 0 {
-        return symbol(out, at, kind, b'o', p);
-    }
-    symbol(out, at, kind, letter, p)
 }
 
 // The switches filed under p.
-fn switches(
-    out: &mut [u8],
-    at: usize,
-    m: usize,
-    grid: &[u8],
-    across: &[u8],
-    down: &[u8],
-    p: usize,
-) -> usize {
-    let a = wafer::get(across, p, 0);
-    let d = wafer::get(down, p, 0);
-    let second = switch(out, at, wafer::has_across(m, grid, p), b'a', a, p);
-    switch(out, second, wafer::has_down(grid, p), b'd', d, p)
+fn switches(m: usize, grid: &[u8], across: &[u8], down: &[u8], p: usize) {
+    switch(
+        wafer::has_across(m, grid, p),
+        b'a',
+        wafer::get(across, p, 0),
+        p,
+    );
+    switch(wafer::has_down(grid, p), b'd', wafer::get(down, p, 0), p);
 }
 
 // The cell of p, where it has one: its index, in the processor that holds it.
-fn cell(out: &mut [u8], at: usize, p: usize, place: usize) -> usize {
+fn cell(p: usize, place: usize) {
     let values = [
         wafer::units(place % 32),
         wafer::units(place / 32),
@@ -204,23 +191,17 @@ fn cell(out: &mut [u8], at: usize, p: usize, place: usize) -> usize {
         p % 32,
     ];
     if place == 0 {
-        return at;
+        return;
     }
     if place == p {
-        return output::form(out, at, b"<text x='@' y='@'>@,@</text>\n", &values);
+        output::form(b"<text x='@' y='@'>@,@</text>\n", &values);
+    } else {
+        output::form(b"<text class='m' x='@' y='@'>@,@</text>\n", &values);
     }
-    output::form(
-        out,
-        at,
-        b"<text class='m' x='@' y='@'>@,@</text>\n",
-        &values,
-    )
 }
 
 // What a layer draws at p.
 fn item(
-    out: &mut [u8],
-    at: usize,
     layer: Layer,
     n: usize,
     m: usize,
@@ -230,61 +211,51 @@ fn item(
     across: &[u8],
     down: &[u8],
     p: usize,
-) -> usize {
+) {
     let direction = wafer::get(directions, p, 0);
     let place = wafer::place_of(places, p);
     match layer {
-        Layer::Labels => labels(out, at, grid, p),
-        Layer::Tracks => tracks(out, at, m, grid, p),
-        Layer::Paths(d) => path(out, at, n, m, p, direction, d),
-        Layer::Heads(d) => head(out, at, n, m, p, direction, d),
-        Layer::Processors => processor(out, at, n, m, wafer::get(grid, p, 2), direction, p),
-        Layer::Moved => moved(out, at, p, place),
-        Layer::Switches => switches(out, at, m, grid, across, down, p),
-        Layer::Links(h) => links::cell_link(out, at, n, m, directions, place, across, down, p, h),
-        Layer::Cells => cell(out, at, p, place),
+        Layer::Labels => labels(grid, p),
+        Layer::Tracks => tracks(m, grid, p),
+        Layer::Paths(d) => if direction == d {
+            path(n, m, p, d);
+        },
+        Layer::Heads(d) => if direction == d {
+            head(n, m, p, d);
+        },
+        Layer::Processors => processor(n, m, wafer::get(grid, p, 2), direction, p),
+        Layer::Moved => moved(p, place),
+        Layer::Switches => switches(m, grid, across, down, p),
+        Layer::Links(h) => links::cell_link(n, m, directions, place, across, down, p, h),
+        Layer::Cells => cell(p, place),
     }
 }
 
 // The opening tag of a layer.
-fn opening(out: &mut [u8], at: usize, layer: Layer) -> usize {
+fn opening(layer: Layer) {
     match layer {
-        Layer::Labels => output::text(out, at, b"<g class='n' transform='translate(0 4)'>\n"),
-        Layer::Tracks => output::text(out, at, b"<path class='u' d='"),
-        Layer::Paths(d) => output::form(
-            out,
-            at,
-            b"<path class='b $' d='",
-            &[letter_of(d) as usize],
-        ),
-        Layer::Heads(d) => output::form(
-            out,
-            at,
-            b"<path class='h $' d='",
-            &[letter_of(d) as usize],
-        ),
-        Layer::Links(_) => output::text(out, at, b"<path class='l' d='"),
-        Layer::Cells => output::text(out, at, b"<g class='c' transform='translate(0 4)'>\n"),
-        _ => output::text(out, at, b"<g>\n"),
+        Layer::Labels => output::text(b"<g class='n' transform='translate(0 4)'>\n"),
+        Layer::Tracks => output::text(b"<path class='u' d='"),
+        Layer::Paths(d) => output::form(b"<path class='b $' d='", &[letter_of(d) as usize]),
+        Layer::Heads(d) => output::form(b"<path class='h $' d='", &[letter_of(d) as usize]),
+        Layer::Links(_) => output::text(b"<path class='l' d='"),
+        Layer::Cells => output::text(b"<g class='c' transform='translate(0 4)'>\n"),
+        _ => output::text(b"<g>\n"),
     }
 }
 
 // The closing tag of a layer.
-fn closing(out: &mut [u8], at: usize, layer: Layer) -> usize {
+fn closing(layer: Layer) {
     match layer {
         Layer::Tracks | Layer::Paths(_) | Layer::Heads(_) | Layer::Links(_) => output::text(
-            out,
-            at,
             b"'/>\n",
         ),
-        _ => output::text(out, at, b"</g>\n"),
+        _ => output::text(b"</g>\n"),
     }
 }
 
 // A layer, over all positions.
 fn draw_layer(
-    out: &mut [u8],
-    start: usize,
     layer: Layer,
     n: usize,
     m: usize,
@@ -293,24 +264,12 @@ fn draw_layer(
     places: &[u16],
     across: &[u8],
     down: &[u8],
-) -> usize {
-    let mut at = opening(out, start, layer);
+) {
+    opening(layer);
     for p in 0..1024 {
-        at = item(
-            out,
-            at,
-            layer,
-            n,
-            m,
-            grid,
-            directions,
-            places,
-            across,
-            down,
-            p,
-        );
+        item(layer, n, m, grid, directions, places, across, down, p);
     }
-    closing(out, at, layer)
+    closing(layer);
 }
 
 // All layers, from the lowest to the highest.
@@ -337,8 +296,6 @@ fn layers() -> [Layer; 16] {
 
 // The wafer, layer by layer.
 pub fn draw(
-    out: &mut [u8],
-    start: usize,
     n: usize,
     m: usize,
     grid: &[u8],
@@ -346,12 +303,10 @@ pub fn draw(
     places: &[u16],
     across: &[u8],
     down: &[u8],
-) -> usize {
+) {
     let all = layers();
-    let mut at = start;
     for k in 0..16 {
         let layer = all[k];
-        at = draw_layer(out, at, layer, n, m, grid, directions, places, across, down);
+        draw_layer(layer, n, m, grid, directions, places, across, down);
     }
-    at
 }

@@ -5,12 +5,11 @@
 use crate::output;
 use crate::wafer;
 
-// How far a link is drawn: where it is on the lattice, its heading, and the offset in the output.
+// How far a link is drawn: where it is on the lattice, and its heading.
 pub struct Walk {
     pub row: usize,
     pub column: usize,
     pub heading: u8,
-    pub at: usize,
 }
 
 // Half the width of what stands at a point of the lattice: a processor, a switch, or nothing at a crossing.
@@ -34,46 +33,35 @@ fn track_length(from: usize, to: usize) -> usize {
     0
 }
 
-// A minus sign where a heading goes back.
-fn sign(out: &mut [u8], at: usize, heading: u8) -> usize {
-    if heading % 2 == 0 {
-        return output::put(out, at, b'-');
+// A line in a heading, with a minus sign where the heading goes back.
+fn line(heading: u8, length: usize) {
+    match heading {
+        0 => output::text(b"h-"),
+        1 => output::text(b"h"),
+        2 => output::text(b"v-"),
+        _ => output::text(b"v"),
     }
-    at
-}
-
-// A line in a heading.
-fn line(out: &mut [u8], at: usize, heading: u8, length: usize) -> usize {
-    let axis = if heading < 2 { b'h' } else { b'v' };
-    let second = output::put(out, at, axis);
-    let third = sign(out, second, heading);
-    output::number(out, third, length)
+    output::number(length);
 }
 
 // Half a switch's width along an axis, or 0.
-fn part(out: &mut [u8], at: usize, on: bool, back: bool) -> usize {
+fn part(on: bool, back: bool) {
     let sign = if back { b'-' } else { b' ' };
     let size = if on { b'9' } else { b'0' };
-    let second = output::put(out, at, sign);
-    output::put(out, second, size)
+    output::text(&[sign, size]);
 }
 
 // Half a switch's width in each of two headings.
-fn parts(out: &mut [u8], at: usize, from: u8, to: u8) -> usize {
-    let second = part(out, at, (from < 2) | (to < 2), (from == 0) | (to == 0));
-    part(
-        out,
-        second,
-        (2 <= from) | (2 <= to),
-        (from == 2) | (to == 2),
-    )
+fn parts(from: u8, to: u8) {
+    part((from < 2) | (to < 2), (from == 0) | (to == 0));
+    part((2 <= from) | (2 <= to), (from == 2) | (to == 2));
 }
 
 // A quarter turn inside a switch, from one heading to another.
-fn turn(out: &mut [u8], at: usize, from: u8, to: u8) -> usize {
-    let second = output::put(out, at, b'q');
-    let third = parts(out, second, from, from);
-    parts(out, third, from, to)
+fn turn(from: u8, to: u8) {
+    output::text(b"q");
+    parts(from, from);
+    parts(from, to);
 }
 
 // The heading after a switch, by its letter. Straight on, a is for links along the switch's channel and b for links across it.
@@ -149,27 +137,28 @@ fn step(i: usize, heading: u8, back: u8, on: u8) -> usize {
 }
 
 // A line through a switch or a fault of a half width; at a crossing there is none.
-fn through(out: &mut [u8], at: usize, half: usize, heading: u8) -> usize {
+fn through(half: usize, heading: u8) {
     match half {
-        9 => line(out, at, heading, 18),
-        20 => line(out, at, heading, 40),
-        _ => at,
+        9 => line(heading, 18),
+        20 => line(heading, 40),
+        _ => (),
     }
 }
 
 // What a link draws inside a switch, a fault or a crossing of a half width: a line straight on, or a turn.
-fn inside(out: &mut [u8], at: usize, half: usize, from: u8, to: u8) -> usize {
+fn inside(half: usize, from: u8, to: u8) {
     if to == 4 {
-        return at;
+        return;
     }
     if from == to {
-        return through(out, at, half, from);
+        through(half, from);
+    } else {
+        turn(from, to);
     }
-    turn(out, at, from, to)
 }
 
 // A link drawn one point further.
-fn advance(out: &mut [u8], directions: &[u8], across: &[u8], down: &[u8], w: Walk) -> Walk {
+fn advance(directions: &[u8], across: &[u8], down: &[u8], w: Walk) -> Walk {
     let heading = w.heading;
     if heading == 4 {
         return w;
@@ -177,49 +166,45 @@ fn advance(out: &mut [u8], directions: &[u8], across: &[u8], down: &[u8], w: Wal
     let row = step(w.row, heading, 2, 3);
     let column = step(w.column, heading, 0, 1);
     let half = reach(row, column);
-    let length = track_length(reach(w.row, w.column), half);
-    let second = line(out, w.at, heading, length);
+    line(heading, track_length(reach(w.row, w.column), half));
     let turned = heading_at(directions, across, down, row, column, heading);
-    let at = inside(out, second, half, heading, turned);
+    inside(half, heading, turned);
     Walk {
         row,
         column,
         heading: turned,
-        at,
     }
+}
+
+// How far the port that a link leaves is from the middle of its processor, along an axis.
+fn offset(on: bool) -> usize {
+    if on { 20 } else { 0 }
 }
 
 // The start of a link: the east or the south port of a processor.
-fn port(out: &mut [u8], at: usize, from: usize, heading: u8) -> usize {
-    let values = [wafer::units(from % 32), wafer::units(from / 32)];
-    if heading < 2 {
-        return output::form(out, at, b"M@ @m20 0", &values);
-    }
-    output::form(out, at, b"M@ @m0 20", &values)
+fn port(from: usize, heading: u8) {
+    let values = [
+        wafer::units(from % 32),
+        wafer::units(from / 32),
+        offset(heading < 2),
+        offset(2 <= heading),
+    ];
+    output::form(b"M@ @m@ @", &values);
 }
 
 // The link that leaves the processor at `from` heading east or south. Sixteen points are more than a link over three switches has.
-fn link(
-    out: &mut [u8],
-    at: usize,
-    directions: &[u8],
-    across: &[u8],
-    down: &[u8],
-    from: usize,
-    heading: u8,
-) -> usize {
+fn link(directions: &[u8], across: &[u8], down: &[u8], from: usize, heading: u8) {
+    port(from, heading);
     let mut w = Walk {
         row: 2 * (from / 32),
         column: 2 * (from % 32),
         heading,
-        at: port(out, at, from, heading),
     };
     let mut left: usize = 16;
     while 0 < left {
-        w = advance(out, directions, across, down, w);
+        w = advance(directions, across, down, w);
         left -= 1;
     }
-    w.at
 }
 
 // Whether the cell of p has a neighbour in a heading, east or south.
@@ -232,8 +217,6 @@ fn has_neighbour(n: usize, m: usize, p: usize, heading: u8) -> bool {
 
 // The link of the cell of p to its neighbour in a heading, where it has one.
 pub fn cell_link(
-    out: &mut [u8],
-    at: usize,
     n: usize,
     m: usize,
     directions: &[u8],
@@ -242,9 +225,8 @@ pub fn cell_link(
     down: &[u8],
     p: usize,
     heading: u8,
-) -> usize {
+) {
     if has_neighbour(n, m, p, heading) & (place != 0) {
-        return link(out, at, directions, across, down, place, heading);
+        link(directions, across, down, place, heading);
     }
-    at
 }

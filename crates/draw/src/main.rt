@@ -15,51 +15,50 @@ use trials::Outcome;
 // The limit of trials.
 const LIMIT: u32 = 1000000;
 
-// The ending of a word that goes with a number.
-fn ending(out: &mut [u8], at: usize, v: usize) -> usize {
-    if v == 1 {
-        return at;
-    }
-    output::put(out, at, b's')
-}
-
 // A number of things.
-fn counted(out: &mut [u8], at: usize, v: usize, thing: &[u8]) -> usize {
-    let second = output::count(out, at, v);
-    let third = output::text(out, second, thing);
-    ending(out, third, v)
+fn counted(v: usize, thing: &[u8]) {
+    output::count(v);
+    output::text(thing);
+    if v != 1 {
+        output::text(b"s");
+    }
 }
 
-// An outcome in words.
-fn verdict(out: &mut [u8], at: usize, o: Outcome) -> usize {
+// The number of trials that goes with an outcome.
+fn trials_of(o: Outcome) -> u32 {
     match o {
-        Outcome::Repaired(t) => {
-            let second = output::text(out, at, b"repaired with ");
-            counted(out, second, t as usize, b" trial")
-        }
-        Outcome::Beyond(t) => {
-            let second = output::text(out, at, b"beyond repair after ");
-            counted(out, second, t as usize, b" trial")
-        }
-        Outcome::Spent(t) => {
-            let second = output::text(out, at, b"spent: more than ");
-            counted(out, second, t as usize, b" trial")
-        }
+        Outcome::Repaired(t) => t,
+        Outcome::Beyond(t) => t,
+        Outcome::Spent(t) => t,
+    }
+}
+
+fn is_repaired(o: Outcome) -> bool {
+    match o {
+        Outcome::Repaired(_) => true,
+        _ => false,
+    }
+}
+
+// An outcome in words, before its number of trials.
+fn verdict(o: Outcome) {
+    match o {
+        Outcome::Repaired(_) => output::text(b", repaired with "),
+        Outcome::Beyond(_) => output::text(b", beyond repair after "),
+        Outcome::Spent(_) => output::text(b", spent: more than "),
     }
 }
 
 // The title: the sizes, the number of faults and the outcome.
-fn title(out: &mut [u8], at: usize, head: Head, o: Outcome) -> usize {
-    let second = output::form(
-        out,
-        at,
+fn title(head: Head, o: Outcome) {
+    output::form(
         b"<text class='t' x='20' y='34'>@ x @, ",
         &[head.rows, head.columns],
     );
-    let third = counted(out, second, head.count, b" fault");
-    let fourth = output::text(out, third, b", ");
-    let fifth = verdict(out, fourth, o);
-    output::text(out, fifth, b"</text>\n")
+    counted(head.count, b" fault");
+    verdict(o);
+    counted(trials_of(o) as usize, b" trial");
+    output::text(b"</text>\n");
 }
 
 // The length from the first to the last of k + 2 rows or columns with a margin, and `least` at the least.
@@ -77,135 +76,58 @@ fn least_height(planned: bool) -> usize {
 }
 
 // The beginning of the picture of a map: its symbols, title and legend.
-fn draw_frame(out: &mut [u8], head: Head, o: Outcome, planned: bool) -> usize {
+fn draw_frame(head: Head, o: Outcome) {
+    let planned = is_repaired(o);
     let width = extent(320, head.columns, 560);
     let height = extent(150, head.rows, least_height(planned));
-    let second = words::open(out, 0, width, height);
-    let third = words::symbols(out, second);
-    let fourth = title(out, third, head, o);
-    let fifth = words::legend(out, fourth, extent(140, head.columns, 0), planned);
-    output::text(out, fifth, b"<g transform='translate(76 100)'>\n")
-}
-
-// The picture of a map. Where there is no plan, the buffers but the grid hold 0, and the layers that show one are empty.
-fn draw_picture(
-    out: &mut [u8],
-    head: Head,
-    o: Outcome,
-    planned: bool,
-    grid: &[u8],
-    directions: &[u8],
-    places: &[u16],
-    across: &[u8],
-    down: &[u8],
-) {
-    let second = draw_frame(out, head, o, planned);
-    let third = layers::draw(
-        out,
-        second,
-        head.rows,
-        head.columns,
-        grid,
-        directions,
-        places,
-        across,
-        down,
-    );
-    let fourth = output::text(out, third, b"</g>\n</svg>\n");
-    output::finish(out, fourth);
+    words::open(width, height);
+    words::symbols();
+    title(head, o);
+    words::legend(extent(140, head.columns, 0), planned);
+    output::text(b"<g transform='translate(76 100)'>\n");
 }
 
 // The picture of a refused file: the number, the place and the reason.
-fn draw_refusal(out: &mut [u8], r: Refusal) {
-    let second = words::open(out, 0, 560, 100);
-    let third = output::form(
-        out,
-        second,
+fn draw_refusal(r: Refusal) {
+    words::open(560, 100);
+    output::form(
         b"<text class='t' x='20' y='40'>refused @ at byte @</text>\n<text class='g' x='20' y='68'>",
         &[r.number as usize, r.place],
     );
-    let fourth = words::reason(out, third, r.number);
-    let fifth = output::text(out, fourth, b"</text>\n</svg>\n");
-    output::finish(out, fifth);
+    words::reason(r.number);
+    output::text(b"</text>\n</svg>\n");
 }
 
-// Fills the placement and the switches of a repair, and answers whether there is one.
-fn fill(
-    o: Outcome,
-    n: usize,
-    m: usize,
-    grid: &[u8],
-    directions: &[u8],
-    places: &mut [u16],
-    across: &mut [u8],
-    down: &mut [u8],
-) -> bool {
-    match o {
-        Outcome::Repaired(_) => {
-            repair::place_cells(n, m, grid, directions, places);
-            repair::route_switches(n, m, grid, directions, across, down);
-            true
-        }
-        Outcome::Beyond(_) => false,
-        Outcome::Spent(_) => false,
-    }
-}
-
-// Plans and draws a map that was read, over blank buffers.
-fn draw_map(
-    out: &mut [u8],
-    head: Head,
-    grid: &[u8],
-    directions: &mut [u8],
-    places: &mut [u16],
-    across: &mut [u8],
-    down: &mut [u8],
-) {
+// The picture of a map that was planned. Where there is no plan, the directions are 0, placement and routing refuse them, and the layers that
+// show a plan are empty.
+fn draw_planned(head: Head, o: Outcome, grid: &[u8], directions: &[u8]) {
     let n = head.rows;
     let m = head.columns;
-    match repair::plan_repair(n, m, grid, directions, LIMIT) {
-        Answer::Planned(o) => {
-            let planned = fill(o, n, m, grid, directions, places, across, down);
-            draw_picture(
-                out,
-                head,
-                o,
-                planned,
-                grid,
-                directions,
-                places,
-                across,
-                down,
-            );
-        }
-        Answer::Refused(r) => draw_refusal(out, r),
-    }
-}
-
-// Reads and draws a map file, over a blank grid.
-fn draw_file(out: &mut [u8], s: &[u8], grid: &mut [u8]) {
-    let mut directions = [0u8; 1024];
     let mut places = [0u16; 1024];
     let mut across = [0u8; 1024];
     let mut down = [0u8; 1024];
-    match readers::read_map(s, grid) {
-        FileRead::File(head) => draw_map(
-            out,
-            head,
-            grid,
-            &mut directions,
-            &mut places,
-            &mut across,
-            &mut down,
-        ),
-        FileRead::Refused(r) => draw_refusal(out, r),
+    repair::place_cells(n, m, grid, directions, &mut places);
+    repair::route_switches(n, m, grid, directions, &mut across, &mut down);
+    draw_frame(head, o);
+    layers::draw(n, m, grid, directions, &places, &across, &down);
+    output::text(b"</g>\n</svg>\n");
+}
+
+// Plans and draws a map that was read.
+fn draw_map(head: Head, grid: &[u8]) {
+    let mut directions = [0u8; 1024];
+    match repair::plan_repair(head.rows, head.columns, grid, &mut directions, LIMIT) {
+        Answer::Planned(o) => draw_planned(head, o, grid, &directions),
+        Answer::Refused(r) => draw_refusal(r),
     }
 }
 
 fn main() {
     let mut buf = io::buffer();
     let k = io::read_full(STDIN_FILENO, &mut buf);
-    let mut out = [0u8; 16384];
     let mut grid = [0u8; 1024];
-    draw_file(&mut out, &buf[..k], &mut grid);
+    match readers::read_map(&buf[..k], &mut grid) {
+        FileRead::File(head) => draw_map(head, &grid),
+        FileRead::Refused(r) => draw_refusal(r),
+    }
 }

@@ -1,11 +1,11 @@
 // The fixed parts of the picture: styles, symbols and legend.
 use crate::output;
 
-// The styles of text (t title, g legend, n numbers along the edge, e letters, c cells, m moved cells) and of lines (u tracks, j joins, l links).
-fn line_styles(out: &mut [u8], at: usize) -> usize {
+// The styles of text (t title, g legend, n numbers along the edge, e letters, c cells, m moved cells), of lines (u tracks, j joins, l links),
+// of paths by direction (b bands, h arrowheads, o processors with moved cells), of processors (p inner, s spare, f fault, x its cross, k what
+// it joins) and of switches (w); and a white ground.
+fn styles() {
     output::text(
-        out,
-        at,
         b"<style type='text/css'>
 text{font-family:sans-serif;fill:#222}
 .t{font-size:18px;font-weight:bold}
@@ -17,17 +17,7 @@ text{font-family:sans-serif;fill:#222}
 .u{fill:none;stroke:#e2e2e2;stroke-width:2}
 .j{fill:none;stroke:#d0d0d0;stroke-width:2}
 .l{fill:none;stroke:#222;stroke-width:2.4}
-",
-    )
-}
-
-// The styles of paths by direction (b bands, h arrowheads, o processors with moved cells), processors (p inner, s spare, f fault, x its cross,
-// k what it joins) and switches (w).
-fn shape_styles(out: &mut [u8], at: usize) -> usize {
-    output::text(
-        out,
-        at,
-        b".S{color:#0072b2;fill:#cfe6f5}
+.S{color:#0072b2;fill:#cfe6f5}
 .N{color:#e69f00;fill:#fbe6bd}
 .E{color:#009e73;fill:#c7ebdf}
 .W{color:#cc79a7;fill:#f5dcea}
@@ -41,16 +31,16 @@ fn shape_styles(out: &mut [u8], at: usize) -> usize {
 .k{fill:none;stroke:#f6dede;stroke-width:6}
 .w{fill:#fff;stroke:#9a9a9a}
 </style>
+<rect width='100%' height='100%' fill='#fff'/>
 ",
-    )
+    );
 }
 
 // The symbols of processors: inner, spare, a fault that joins nothing, its N and S, or its W and E, one with a moved cell, by
-// direction; and the arrow of the legend.
-fn processor_symbols(out: &mut [u8], at: usize) -> usize {
+// direction; the arrow of the legend; and the symbols of across and down switches, by their letters, at the processor under which they are
+// filed.
+pub fn symbols() {
     output::text(
-        out,
-        at,
         b"<defs>
 <rect id='q' x='-20' y='-20' width='40' height='40' rx='7'/>
 <use id='pi' xlink:href='#q' class='p'/>
@@ -63,16 +53,7 @@ fn processor_symbols(out: &mut [u8], at: usize) -> usize {
 <use id='mE' xlink:href='#q' class='o E'/>
 <use id='mW' xlink:href='#q' class='o W'/>
 <g id='ar'><path class='b' d='M0-20V2'/><path class='h' d='M0 22l-20-22h40z'/></g>
-",
-    )
-}
-
-// The symbols of across switches, by their letters, at the processor under which they are filed.
-fn across_symbols(out: &mut [u8], at: usize) -> usize {
-    output::text(
-        out,
-        at,
-        b"<rect id='r' class='w' x='-9' y='-9' width='18' height='18' rx='3'/>
+<rect id='r' class='w' x='-9' y='-9' width='18' height='18' rx='3'/>
 <path id='jv' class='j' d='M0-9V9'/>
 <path id='jh' class='j' d='M-9 0H9'/>
 <path id='jc' class='j' d='M-9 0Q0 0 0 9M9 0Q0 0 0-9'/>
@@ -82,56 +63,30 @@ fn across_symbols(out: &mut [u8], at: usize) -> usize {
 <g id='ab'><use xlink:href='#ao'/><use xlink:href='#jh' x='36'/><text class='e' x='43' y='-12'>b</text></g>
 <g id='ac'><use xlink:href='#ao'/><use xlink:href='#jc' x='36'/><text class='e' x='43' y='-12'>c</text></g>
 <g id='ad'><use xlink:href='#ao'/><use xlink:href='#jd' x='36'/><text class='e' x='43' y='-12'>d</text></g>
-",
-    )
-}
-
-// The symbols of down switches.
-fn down_symbols(out: &mut [u8], at: usize) -> usize {
-    output::text(
-        out,
-        at,
-        b"<use id='do' xlink:href='#r' y='36'/>
+<use id='do' xlink:href='#r' y='36'/>
 <g id='da'><use xlink:href='#do'/><use xlink:href='#jh' y='36'/><text class='e' x='14' y='32'>a</text></g>
 <g id='db'><use xlink:href='#do'/><use xlink:href='#jv' y='36'/><text class='e' x='14' y='32'>b</text></g>
 <g id='dc'><use xlink:href='#do'/><use xlink:href='#jc' y='36'/><text class='e' x='14' y='32'>c</text></g>
 <g id='dd'><use xlink:href='#do'/><use xlink:href='#jd' y='36'/><text class='e' x='14' y='32'>d</text></g>
 </defs>
 ",
-    )
+    );
 }
 
-// The beginning of a picture of a width and a height: its styles, and a white ground.
-pub fn open(out: &mut [u8], at: usize, width: usize, height: usize) -> usize {
-    let second = output::form(
-        out,
-        at,
+// The beginning of a picture of a width and a height.
+pub fn open(width: usize, height: usize) {
+    output::form(
         b"<svg xmlns='http://www.w3.org/2000/svg' xmlns:xlink='http://www.w3.org/1999/xlink'
 version='1.1' width='@' height='@' viewBox='0 0 @ @'>
 ",
         &[width, height, width, height],
     );
-    let third = line_styles(out, second);
-    let fourth = shape_styles(out, third);
-    output::text(
-        out,
-        fourth,
-        b"<rect width='100%' height='100%' fill='#fff'/>\n",
-    )
+    styles();
 }
 
-// The symbols of processors and switches.
-pub fn symbols(out: &mut [u8], at: usize) -> usize {
-    let second = processor_symbols(out, at);
-    let third = across_symbols(out, second);
-    down_symbols(out, third)
-}
-
-// The legend of paths.
-fn path_rows(out: &mut [u8], at: usize) -> usize {
+// The legend of what only a plan has: paths, cells, switches and tracks.
+fn plan_rows() {
     output::text(
-        out,
-        at,
         b"<use xlink:href='#ar' class='S' transform='translate(0 132) scale(.7)'/>
 <text class='g' x='26' y='137'>path to the south</text>
 <use xlink:href='#ar' class='N' transform='translate(0 165) rotate(180) scale(.7)'/>
@@ -140,16 +95,7 @@ fn path_rows(out: &mut [u8], at: usize) -> usize {
 <text class='g' x='26' y='203'>path to the east</text>
 <use xlink:href='#ar' class='W' transform='translate(0 231) rotate(90) scale(.7)'/>
 <text class='g' x='26' y='236'>path to the west</text>
-",
-    )
-}
-
-// The legend of cells, switches and tracks.
-fn cell_rows(out: &mut [u8], at: usize) -> usize {
-    output::text(
-        out,
-        at,
-        b"<g class='c' transform='translate(0 66) scale(.7)'><use xlink:href='#mS'/><text class='m' y='4'>2,1</text></g>
+<g class='c' transform='translate(0 66) scale(.7)'><use xlink:href='#mS'/><text class='m' y='4'>2,1</text></g>
 <text class='g' x='26' y='71'>cell that moved</text>
 <g class='c' transform='translate(0 99) scale(.7)'><use xlink:href='#pi'/><text y='4'>1,2</text></g>
 <text class='g' x='26' y='104'>cell in its own place</text>
@@ -160,23 +106,12 @@ fn cell_rows(out: &mut [u8], at: usize) -> usize {
 <path class='u' d='M-14 330H14'/>
 <text class='g' x='26' y='335'>track not in use</text>
 ",
-    )
-}
-
-// The legend of what only a plan has.
-fn plan_rows(out: &mut [u8], at: usize, planned: bool) -> usize {
-    if planned {
-        let second = path_rows(out, at);
-        return cell_rows(out, second);
-    }
-    at
+    );
 }
 
 // The legend, at a distance from the left.
-pub fn legend(out: &mut [u8], at: usize, x: usize, planned: bool) -> usize {
-    let second = output::form(
-        out,
-        at,
+pub fn legend(x: usize, planned: bool) {
+    output::form(
         b"<g transform='translate(@ 100)'>
 <use xlink:href='#fo' transform='scale(.7)'/>
 <text class='g' x='26' y='5'>fault</text>
@@ -185,23 +120,21 @@ pub fn legend(out: &mut [u8], at: usize, x: usize, planned: bool) -> usize {
 ",
         &[x],
     );
-    let third = plan_rows(out, second, planned);
-    output::text(out, third, b"</g>\n")
+    if planned {
+        plan_rows();
+    }
+    output::text(b"</g>\n");
 }
 
 // What a refusal of a map file means.
-pub fn reason(out: &mut [u8], at: usize, number: u8) -> usize {
+pub fn reason(number: u8) {
     match number {
-        1 => output::text(out, at, b"the number of rows or columns is not 1 to 30"),
-        8 => output::text(out, at, b"the file ends too early"),
-        9 => output::text(
-            out,
-            at,
-            b"a number is longer than two bytes or not in its shortest form",
-        ),
-        10 => output::text(out, at, b"a fault is at a place without a processor"),
-        11 => output::text(out, at, b"a fault is listed a second time"),
-        12 => output::text(out, at, b"bytes follow the last fault"),
-        _ => output::text(out, at, b"this is not a map"),
+        1 => output::text(b"the number of rows or columns is not 1 to 30"),
+        8 => output::text(b"the file ends too early"),
+        9 => output::text(b"a number is longer than two bytes or not in its shortest form"),
+        10 => output::text(b"a fault is at a place without a processor"),
+        11 => output::text(b"a fault is listed a second time"),
+        12 => output::text(b"bytes follow the last fault"),
+        _ => output::text(b"this is not a map"),
     }
 }

@@ -1,17 +1,15 @@
--- `draw::layers::draw` is safe and ends: the buffer keeps its length, and the layers that are left fall.
+-- `draw::layers::draw` is safe and ends: the layers that are left fall.
 -- Assumes nothing.
 use borrow.Author.Needs.{needs}
-use mathlib.Core.Path.{_≡_}
 use Prim.Native.Nat.{_-_}
-use lib.ListN.{length}
 use Rattle.draw.proofs.layers.draw.Statement.{statement}
 use Rattle.draw.proofs.layers.draw.Tie as tie
 
 abbrev Inv-loop : tie.InvT-loop
-Inv-loop out₀ start n m grid directions places across down all at₀ k₀ out at k = length out ≡ length out₀
+Inv-loop n m grid directions places across down all k₀ k = Unit {0}
 
 abbrev μ-loop : tie.MeasureT-loop
-μ-loop out₀ start n m grid directions places across down all at₀ k₀ out at k = 16 - k
+μ-loop n m grid directions places across down all k₀ k = 16 - k
 
 layers-requires : tie.Need-layers-requires Inv-loop μ-loop
 layers-requires c κs = search needs
@@ -37,9 +35,6 @@ loop-less c = search needs
 loop-again : tie.Need-loop-again Inv-loop μ-loop
 loop-again c = search needs
 
-same-length : tie.Need-same-length Inv-loop μ-loop
-same-length c = search needs
-
 returns : tie.Need-returns Inv-loop μ-loop
 returns c = search needs
 
@@ -57,5 +52,4 @@ draw-spec =
     add-k
     loop-less
     loop-again
-    same-length
     returns)

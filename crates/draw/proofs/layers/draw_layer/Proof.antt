@@ -1,17 +1,15 @@
--- `draw::layers::draw_layer` is safe and ends: the buffer keeps its length, and the positions that are left fall.
+-- `draw::layers::draw_layer` is safe and ends: the positions that are left fall.
 -- Assumes nothing.
 use borrow.Author.Needs.{needs}
-use mathlib.Core.Path.{_≡_}
 use Prim.Native.Nat.{_-_}
-use lib.ListN.{length}
 use Rattle.draw.proofs.layers.draw_layer.Statement.{statement}
 use Rattle.draw.proofs.layers.draw_layer.Tie as tie
 
 abbrev Inv-loop : tie.InvT-loop
-Inv-loop out₀ start layer n m grid directions places across down at₀ p₀ out at p = length out ≡ length out₀
+Inv-loop layer n m grid directions places across down p₀ p = Unit {0}
 
 abbrev μ-loop : tie.MeasureT-loop
-μ-loop out₀ start layer n m grid directions places across down at₀ p₀ out at p = 1024 - p
+μ-loop layer n m grid directions places across down p₀ p = 1024 - p
 
 opening-requires : tie.Need-opening-requires Inv-loop μ-loop
 opening-requires c κs = search needs
@@ -34,9 +32,6 @@ loop-again c = search needs
 closing-requires : tie.Need-closing-requires Inv-loop μ-loop
 closing-requires c κs = search needs
 
-same-length : tie.Need-same-length Inv-loop μ-loop
-same-length c = search needs
-
 returns : tie.Need-returns Inv-loop μ-loop
 returns c = search needs
 
@@ -53,5 +48,4 @@ draw-layer-spec =
     loop-less
     loop-again
     closing-requires
-    same-length
     returns)

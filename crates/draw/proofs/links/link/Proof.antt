@@ -1,25 +1,23 @@
--- `draw::links::link` is safe and ends: the buffer keeps its length, and the points that are left fall.
+-- `draw::links::link` is safe and ends: the points that are left fall.
 -- Assumes nothing.
 use borrow.Author.Needs.{needs}
-use mathlib.Core.Path.{_≡_}
-use lib.ListN.{length}
 use Rattle.draw.proofs.links.link.Statement.{statement}
 use Rattle.draw.proofs.links.link.Tie as tie
 
 abbrev Inv-loop : tie.InvT-loop
-Inv-loop out₀ at directions across down from heading w₀ left₀ out w left = length out ≡ length out₀
+Inv-loop directions across down from heading w₀ left₀ w left = Unit {0}
 
 abbrev μ-loop : tie.MeasureT-loop
-μ-loop out₀ at directions across down from heading w₀ left₀ out w left = left
-
-mul-t11 : tie.Need-mul-t11 Inv-loop μ-loop
-mul-t11 c = search needs
-
-mul-t13 : tie.Need-mul-t13 Inv-loop μ-loop
-mul-t13 c = search needs
+μ-loop directions across down from heading w₀ left₀ w left = left
 
 port-requires : tie.Need-port-requires Inv-loop μ-loop
 port-requires c κs = search needs
+
+mul-t10 : tie.Need-mul-t10 Inv-loop μ-loop
+mul-t10 c = search needs
+
+mul-t12 : tie.Need-mul-t12 Inv-loop μ-loop
+mul-t12 c = search needs
 
 loop-holds : tie.Need-loop-holds Inv-loop μ-loop
 loop-holds c = search needs
@@ -36,9 +34,6 @@ loop-less c = search needs
 loop-again : tie.Need-loop-again Inv-loop μ-loop
 loop-again c = search needs
 
-same-length : tie.Need-same-length Inv-loop μ-loop
-same-length c = search needs
-
 returns : tie.Need-returns Inv-loop μ-loop
 returns c = search needs
 
@@ -48,13 +43,12 @@ link-spec =
     (tie.spec
     Inv-loop
     μ-loop
-    mul-t11
-    mul-t13
     port-requires
+    mul-t10
+    mul-t12
     loop-holds
     advance-requires
     sub-left
     loop-less
     loop-again
-    same-length
     returns)
