@@ -1,6 +1,6 @@
 -- A grid mark as the code reads it, and what a faulty and a healthy mark say.
 -- Assumes nothing.
-use mathlib.Core.Path.{_≡_, refl, ap}
+use mathlib.Core.Path.{_≡_, ap}
 use mathlib.Core.Bool.{true, false}
 use mathlib.Core.List.{List}
 use Prim.Native.Nat.{ℕ, _<_}
@@ -21,11 +21,6 @@ faulty-read grid p h = ap faulty-mark (mark-read grid p h)
 
 pub inner-fault-read : (n m : ℕ) (grid : List ℕ) (p : ℕ) → p < length grid → inner-fault n m grid p ≡ inner-faulty n m p (getD grid p 0)
 inner-fault-read n m grid p h = ap (inner-faulty n m p) (mark-read grid p h)
-
--- the mark that a fault is given
-pub fault-mark : faulty-mark 1 ≡ true
-unfolding faulty-mark
-fault-mark = refl
 
 -- a faulty position stands in the buffer
 pub faulty-below : (grid : List ℕ) (p : ℕ) → faulty grid p ≡ true → p < length grid

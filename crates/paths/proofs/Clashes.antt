@@ -39,18 +39,6 @@ module _ (n m p d q e : ℕ) where
       by false true h = inr refl
       by false false h = absurd (true≢false h)
 
-  pub meeting-not-clear : meet n m p d q e ≡ true → clear n m p d q e ≡ false
-  unfolding clear clash
-  meeting-not-clear h = rw h
-
-  pub near-miss-not-clear : near-miss p d q e ≡ true → clear n m p d q e ≡ false
-  unfolding clear clash
-  near-miss-not-clear h = by (meet n m p d q e) (near-miss p d q e) h
-    where
-      by : (a b : Bool) → b ≡ true → is-clear (by-tests a b) ≡ false
-      by true b h = refl
-      by false b h = rw h
-
   pub accepted-clear : pair-test n m p d q e ≡ Accepted → clear n m p d q e ≡ true
   unfolding clear pair-test
   accepted-clear h = by (clash n m p d q e) h
