@@ -24,8 +24,8 @@ pub record Text-examples : Type 0 where
   pub smallest : answer ((32 ∷ 46 ∷ []) ∷ (46 ∷ 88 ∷ 46 ∷ []) ∷ (32 ∷ 46 ∷ []) ∷ []) ≡ Grid 1 1
   pub edited : answer ((35 ∷ 32 ∷ 97 ∷ []) ∷ [] ∷ (43 ∷ 46 ∷ 43 ∷ 32 ∷ 13 ∷ []) ∷ (46 ∷ 120 ∷ 46 ∷ []) ∷ (35 ∷ []) ∷ (43 ∷ 46 ∷ []) ∷ (32 ∷ []) ∷ [] ∷ []) ≡ Grid 1 1
   -- 2 x 1 and 1 x 2
-  pub one-row : answer ((32 ∷ 46 ∷ []) ∷ (46 ∷ 46 ∷ 46 ∷ []) ∷ (88 ∷ 46 ∷ 46 ∷ []) ∷ (32 ∷ 46 ∷ []) ∷ []) ≡ Grid 2 1
-  pub one-column : answer ((32 ∷ 46 ∷ 46 ∷ []) ∷ (46 ∷ 88 ∷ 46 ∷ 46 ∷ []) ∷ (32 ∷ 46 ∷ 46 ∷ []) ∷ []) ≡ Grid 1 2
+  pub one-column : answer ((32 ∷ 46 ∷ []) ∷ (46 ∷ 46 ∷ 46 ∷ []) ∷ (88 ∷ 46 ∷ 46 ∷ []) ∷ (32 ∷ 46 ∷ []) ∷ []) ≡ Grid 2 1
+  pub one-row : answer ((32 ∷ 46 ∷ 46 ∷ []) ∷ (46 ∷ 88 ∷ 46 ∷ 46 ∷ []) ∷ (32 ∷ 46 ∷ 46 ∷ []) ∷ []) ≡ Grid 1 2
   -- each way to be wrong
   pub no-row : answer ((35 ∷ 32 ∷ 97 ∷ []) ∷ [] ∷ []) ≡ Wrong Empty
   pub two-rows : answer ((32 ∷ 46 ∷ []) ∷ (46 ∷ 88 ∷ 46 ∷ []) ∷ []) ≡ Wrong (Few 2)

@@ -1,3 +1,4 @@
+pub mod Computing
 pub mod Stars
 pub mod Bench
 pub mod Follows
