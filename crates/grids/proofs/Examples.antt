@@ -21,9 +21,9 @@ text-examples =
       spare-missing = refl;
       corner-marked = refl;
       unknown-mark = refl;
-      first-in-order = refl;
       wide = refl;
       many = refl;
+      first-in-order = refl;
       grid-read = refl;
       grid-kept = refl;
     }
