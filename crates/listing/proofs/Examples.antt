@@ -3,12 +3,12 @@
 use mathlib.Core.Path.{refl}
 use Rattle.array.specs.Tests.{first-of, first-along}
 use Rattle.array.specs.Buffer.{span, positions-along}
-use Rattle.array.specs.Map.{map-tests}
-use Rattle.paths.specs.Path.{path, none-faulty, is-open, member, share, meet, near-miss}
+use Rattle.array.specs.Map.{faulty-mark, map-tests}
+use Rattle.paths.specs.Path.{path, none-faulty, is-open, member, share, meet, near-miss, clash, clear}
 use Rattle.plans.specs.Faults.{faults, directions-at, paired}
 use Rattle.plans.specs.Check.{pairs-test, paths-test, plan-tests}
 use Rattle.trials.specs.Trials.{offer, trials, clear-of, keeps}
-use Rattle.trials.specs.Search.{clear, searched, planned, outcome, direction-of, directions-written}
+use Rattle.trials.specs.Search.{searched, planned, outcome, direction-of, directions-written}
 use Rattle.track.specs.Placement.{through, placement}
 use Rattle.track.specs.Letters.{letters, entry, letter, across-letters, down-letters}
 use Rattle.repair.specs.Operations.{plan-repair, directions-after, place-cells, places-after, route-switches, across-after, down-after}
@@ -23,10 +23,10 @@ unfolding
     along digits line path-line cell-line switch-line plan-lines repair-lines outcome-lines refusal-line
     head-line map-lines file-lines listing
     plan-repair directions-after place-cells places-after route-switches across-after down-after
-    first-of first-along span positions-along map-tests
-    path none-faulty is-open member share meet near-miss
+    first-of first-along span positions-along faulty-mark map-tests
+    path none-faulty is-open member share meet near-miss clash clear
     faults directions-at paired pairs-test paths-test plan-tests
-    offer trials clear-of keeps clear searched planned outcome direction-of directions-written
+    offer trials clear-of keeps searched planned outcome direction-of directions-written
     through placement letters entry letter across-letters down-letters
     number-at size-at healthy-grid record-at records-at read-file
 examples =
