@@ -1,5 +1,5 @@
 pub mod Finding
-pub mod Counted
+pub mod Laying
 pub mod LinkCount
 pub mod Every
 pub mod Running

@@ -1,7 +1,8 @@
 -- How many links to a neighbour an N x M array has: rows and columns are counted apart.
 -- Assumes nothing.
 use mathlib.Core.Path.{_≡_, refl, sym, ap, _∙_}
-use mathlib.Core.Bool.{Bool, true, false, cond, _&&_}
+use mathlib.Core.Bool.{Bool, true, false, cond, _&&_, and-assoc, and-comm}
+use mathlib.Core.List.{List, [], _∷_}
 use Prim.Native.Nat.{ℕ, zero, suc, _+_, _*_, _-_, _≤_, _<_}
 use native.Mathlib.Nat.{add-mul, one-mul, zero-mul, mul-comm}
 use native.Mathlib.Omega.{arith}
@@ -9,27 +10,24 @@ use borrow.Author.Tests.{eqb-true}
 use lib.Dec.{ltb, leb, eqb}
 use lib.ListN.{length}
 use Rattle.array.specs.Place.{row, column}
-use Rattle.array.specs.Buffer.{span, positions-along, nothing-at, zeros}
+use Rattle.array.specs.Buffer.{positions-along, positions-in}
 use Rattle.array.proofs.Bools.{and-true, by-bool, by-eq}
 use Rattle.runs.specs.Run.{has-neighbour}
-
--- the positions that have a neighbour on a side, whatever their elements are
-abbrev pub joined : ℕ → ℕ → ℕ → ℕ → ℕ → Bool
-joined n m side p mark = has-neighbour n m side p
 
 -- how many of i, i + 1, .. of k numbers pass a test
 unfoldable count : (ℕ → Bool) → ℕ → ℕ → ℕ
 count t i zero = 0
 count t i (suc k) = cond (t i) 1 0 + count t (suc i) k
 
-counted : (t : ℕ → ℕ → Bool) (u : ℕ → Bool) (f : ℕ → ℕ) → ((p x : ℕ) → t p x ≡ u p) → (i k : ℕ)
-    → length (positions-along t i (span f i k)) ≡ count u i k
-unfolding positions-along span count
-counted t u f h i zero = refl
-counted t u f h i (suc k) =
+-- and of the positions of a list, where the elements do not matter
+counted : (t : ℕ → ℕ → Bool) (u : ℕ → Bool) → ((p x : ℕ) → t p x ≡ u p) → (i : ℕ) (b : List ℕ)
+    → length (positions-along t i b) ≡ count u i (length b)
+unfolding positions-along count
+counted t u h i [] = refl
+counted t u h i (x ∷ xs) =
     by-bool (u i)
-    (λ e. rw (h i (f i) ∙ e, e, counted t u f h (suc i) k) (omega arith))
-    (λ e. rw (h i (f i) ∙ e, e, counted t u f h (suc i) k) (omega arith))
+    (λ e. rw (h i x ∙ e, e, counted t u h (suc i) xs) (omega arith))
+    (λ e. rw (h i x ∙ e, e, counted t u h (suc i) xs) (omega arith))
 
 -- so many and so many more
 count-more : (t : ℕ → Bool) (i j k : ℕ) → count t i (j + k) ≡ count t i j + count t (i + j) k
@@ -135,31 +133,26 @@ module _ (n m : ℕ) (h : n ≤ 30) (k : m ≤ 30) where
   at : (x y : ℕ) → y < 32 → (row (32 * x + y) ≡ x) × (column (32 * x + y) ≡ y)
   at x y l = (omega arith, omega arith)
 
-  and-swap : (a b c : Bool) → ((a && b) && c) ≡ ((a && c) && b)
-  and-swap true true true = refl
-  and-swap true false true = refl
-  and-swap true true false = refl
-  and-swap true false false = refl
-  and-swap false b c = refl
-
-  and-right : (a b c : Bool) → ((a && b) && c) ≡ (a && (b && c))
-  and-right true b c = refl
-  and-right false b c = refl
-
   right-apart : (x y : ℕ) → y < 32 → has-neighbour n m 0 (32 * x + y) ≡ (up-to n x && before m y)
-  right-apart x y l = let z = at x y l in rw (z .0, z .1) (and-right (up-to n x) (up-to m y) (ltb y m))
+  right-apart x y l = let z = at x y l in rw (z .0, z .1) (and-assoc (up-to n x) (up-to m y) (ltb y m))
 
   lower-apart : (x y : ℕ) → y < 32 → has-neighbour n m 1 (32 * x + y) ≡ (before n x && up-to m y)
-  lower-apart x y l = let z = at x y l in rw (z .0, z .1) (and-swap (up-to n x) (up-to m y) (ltb x n))
+  lower-apart x y l =
+      let z = at x y l in
+      rw (z .0, z .1, and-assoc (up-to n x) (up-to m y) (ltb x n), and-comm (up-to m y) (ltb x n)) (sym (and-assoc (up-to n x) (ltb x n) (up-to m y)))
 
-  pub right-links : length (positions-along (joined n m 0) 0 zeros) ≡ n * (m - 1)
-  right-links =
-      counted (joined n m 0) (has-neighbour n m 0) nothing-at (λ p x. refl) 0 1024
-      ∙ count-rows (has-neighbour n m 0) (up-to n) (before m) right-apart 32
-      ∙ rw (range-of n h .0, range-of m k .1)
+  -- How many positions of a buffer have a neighbour on a side: the test t asks for nothing else.
+  module _ {t : ℕ → ℕ → Bool} (b : List ℕ) (long : length b ≡ 1024) where
+    pub right-links : ((p x : ℕ) → t p x ≡ has-neighbour n m 0 p) → length (positions-in t b) ≡ n * (m - 1)
+    right-links e =
+        counted t (has-neighbour n m 0) e 0 b
+        ∙ ap (count (has-neighbour n m 0) 0) long
+        ∙ count-rows (has-neighbour n m 0) (up-to n) (before m) right-apart 32
+        ∙ rw (range-of n h .0, range-of m k .1)
 
-  pub lower-links : length (positions-along (joined n m 1) 0 zeros) ≡ m * (n - 1)
-  lower-links =
-      counted (joined n m 1) (has-neighbour n m 1) nothing-at (λ p x. refl) 0 1024
-      ∙ count-rows (has-neighbour n m 1) (before n) (up-to m) lower-apart 32
-      ∙ rw (range-of n h .1, range-of m k .0) (mul-comm (n - 1) m)
+    pub lower-links : ((p x : ℕ) → t p x ≡ has-neighbour n m 1 p) → length (positions-in t b) ≡ m * (n - 1)
+    lower-links e =
+        counted t (has-neighbour n m 1) e 0 b
+        ∙ ap (count (has-neighbour n m 1) 0) long
+        ∙ count-rows (has-neighbour n m 1) (before n) (up-to m) lower-apart 32
+        ∙ rw (range-of n h .1, range-of m k .0) (mul-comm (n - 1) m)

@@ -1,20 +1,29 @@
--- The three ends of a run: its tests refuse, the planner does not answer `repaired`, or all calls are made.
+-- The three ends of a run: its tests refuse, the planner does not answer `repaired`, or every link is followed.
 -- Assumes nothing.
-use mathlib.Core.Path.{_≡_, sym, ap, _∙_}
-use mathlib.Core.Bool.{Bool, true, false, cond, false≢true}
+use mathlib.Core.Path.{_≡_, refl, sym, ap, _∙_}
+use mathlib.Core.Bool.{Bool, true, false, cond, _&&_, false≢true}
 use mathlib.Core.List.{List}
 use Prim.Native.Nat.{ℕ, _<_}
 use native.Mathlib.Omega.{arith}
-use Rattle.array.specs.Buffer.{written}
+use Rattle.array.specs.Buffer.{long}
 use Rattle.array.specs.declared.Refusal.{Refusal}
 use Rattle.array.specs.declared.Verdict.{Verdict}
 use Rattle.array.specs.declared.Verdict.the-variants.{Accepted, Refused}
-use Rattle.repair.specs.Operations.{told, places-after, across-after, down-after}
-use Rattle.repair.specs.Demand3.{Given, Good, answer, planned-directions, places-held, routed, Demand3}
+use Rattle.array.proofs.Bools.{and-true}
+use Rattle.array.proofs.Formed.{formed-lent, grid-and}
+use Rattle.array.proofs.Verdicts.{kept-refused, written-accepted}
+use Rattle.plans.specs.Faults.{faults}
+use Rattle.trials.specs.Search.{planned, outcome, directions-written}
+use Rattle.trials.specs.declared.Outcome.{Outcome}
+use Rattle.repair.specs.Operations.{told, plan-repair-test, plan-repair, directions-after, places-after, across-after, down-after}
+use Rattle.repair.specs.Demand3.{Given, Good, answer, planned-directions, places-held, routed, After-repaired, Demand3}
 use Rattle.repair.specs.declared.Answer.{Answer}
+use Rattle.repair.specs.declared.Answer.the-variants.{Planned}
+use Rattle.repair.proofs.Calls.{answer-accepted}
 use Rattle.repair.proofs.Demand3.{demand-3}
-use Rattle.runs.specs.Run.{run-test, unless-refused, run-answer, run-directions, is-repaired, run-places, run-across, run-down, links-found, run-links, Ran-as}
-use Rattle.runs.proofs.Every.{run-good, every-link}
+use Rattle.runs.specs.Run.{run-test, unless-refused, run-answer, run-directions, is-repaired, run-places, run-across, run-down, links-found, run-links, link-count, Ran-as}
+use Rattle.runs.specs.Inner.{Accepts}
+use Rattle.runs.proofs.Every.{run-good, repaired-after, all-found}
 use Rattle.repair.specs.declared.Answer.the-variants as the-answer
 
 never-both : {v : Verdict} {r : Refusal} → v ≡ Refused r → v ≡ Accepted → ⊥
@@ -24,98 +33,87 @@ module _ (g : Given) (u32 : g .limit < 4294967296) where
   demand : run-test g ≡ Accepted → Good g × Demand3 g
   demand p = let d = run-good g p u32 in (d, demand-3 g d)
 
-  -- what is kept or written, by the run's answer
-  places-if : {b : Bool} → is-repaired (run-answer g) ≡ b → cond b (places-held g) (g .places) ≡ run-places g
-  unfolding run-places
-  places-if e = ap (λ (z : Bool). cond z (places-held g) (g .places)) (sym e)
+  -- how many links the calls after `repaired` find
+  abbrev found-links : ℕ
+  found-links = links-found (g .n) (g .m) (g .grid) (planned-directions g) (g .places) (g .across) (g .down)
 
-  across-if : {b : Bool} → is-repaired (run-answer g) ≡ b → cond b (routed g .across) (g .across) ≡ run-across g
-  unfolding run-across
-  across-if e = ap (λ (z : Bool). cond z (routed g .across) (g .across)) (sym e)
-
-  down-if : {b : Bool} → is-repaired (run-answer g) ≡ b → cond b (routed g .down) (g .down) ≡ run-down g
-  unfolding run-down
-  down-if e = ap (λ (z : Bool). cond z (routed g .down) (g .down)) (sym e)
-
-  links-if : {b : Bool} → is-repaired (run-answer g) ≡ b
-      → cond b (links-found (g .n) (g .m) (g .grid) (planned-directions g) (g .places) (g .across) (g .down)) 0 ≡ run-links g
-  unfolding run-links
-  links-if e =
-      ap (λ (z : Bool). cond z (links-found (g .n) (g .m) (g .grid) (planned-directions g) (g .places) (g .across) (g .down)) 0) (sym e)
+  -- The answer is a, b says whether it is `repaired`, and by b the other buffers are written or kept.
+  ran : {a : Answer} {b : Bool} {ds places across down : List ℕ} {k : ℕ} → a ≡ run-answer g → is-repaired a ≡ b → ds ≡ run-directions g
+      → (run-test g ≡ Accepted → (a ≡ answer g) × (ds ≡ planned-directions g))
+      → k ≡ cond b found-links 0 → places ≡ cond b (places-held g) (g .places)
+      → across ≡ cond b (routed g .across) (g .across) → down ≡ cond b (routed g .down) (g .down)
+      → (b ≡ true → found-links ≡ link-count (g .n) (g .m))
+      → Ran-as g (record { answer = a; links = k }) ds places across down
+  unfolding run-places run-across run-down run-links
+  ran answered is left spoken l p x y every =
+      let e = sym is ∙ ap is-repaired answered in
+      record {
+        answers = ap told answered;
+        counts = rw e at l;
+        directions-are = left;
+        places-are = rw e at p;
+        across-are = rw e at x;
+        down-are = rw e at y;
+        demand-3 = demand;
+        spoken-of = spoken;
+        after-repaired = λ h. let t = sym is ∙ h in (rw t at p, rw t at x, rw t at y, (rw t at l) ∙ every t);
+      }
 
   module _ {v : Verdict} (tested : v ≡ run-test g) where
-    answer-refused : {r : Refusal} → v ≡ Refused r → run-answer g ≡ the-answer.Refused r
-    unfolding run-answer
-    answer-refused h = ap (λ (w : Verdict). unless-refused w (answer g)) (sym tested ∙ h)
-
-    directions-refused : {r : Refusal} → v ≡ Refused r → g .directions ≡ run-directions g
-    unfolding run-directions
-    directions-refused h = ap (λ (w : Verdict). written w (planned-directions g) (g .directions)) (sym h ∙ tested)
-
     pub ran-refused : {r : Refusal} → v ≡ Refused r
         → Ran-as g (record { answer = the-answer.Refused r; links = 0 }) (g .directions) (g .places) (g .across) (g .down)
+    unfolding run-answer run-directions
     ran-refused h =
-        let e = ap is-repaired (answer-refused h) in
-        record {
-          answers = ap told (sym (answer-refused h));
-          counts = links-if e;
-          directions-are = directions-refused h;
-          places-are = places-if e;
-          across-are = across-if e;
-          down-are = down-if e;
-          demand-3 = demand;
-          spoken-of = λ p. absurd (never-both (sym tested ∙ h) p);
-          after-repaired = λ p. absurd (false≢true p);
-        }
+        ran (ap (λ (w : Verdict). unless-refused w (answer g)) (sym h ∙ tested)) refl (kept-refused tested _ _ h)
+        (λ p. absurd (never-both (sym tested ∙ h) p)) refl refl refl refl (λ f. absurd (false≢true f))
 
-    -- The tests pass, and the planner answers a, leaving ds in the direction buffer.
-    module _ (passed : v ≡ Accepted) {a : Answer} (planned : a ≡ answer g) {ds : List ℕ} (left : ds ≡ planned-directions g) where
-      answer-passed : a ≡ run-answer g
+    -- The tests pass, and the search has the outcome o and leaves ds in the direction buffer.
+    module _ (passed : v ≡ Accepted)
+        {o : Outcome} (found : o ≡ outcome (g .limit) (planned (g .n) (g .m) (g .grid)))
+        {ds : List ℕ} (left : ds ≡ directions-written (g .limit) (faults (g .n) (g .m) (g .grid)) (planned (g .n) (g .m) (g .grid))) where
+      passes : run-test g ≡ Accepted
+      passes = sym tested ∙ passed
+
+      planner-passes : plan-repair-test (g .n) (g .m) (g .grid) (g .directions) ≡ Accepted
+      planner-passes =
+          let d = demand passes .0 in
+          formed-lent (g .n) (g .m) (g .grid) (long (g .grid) && (long (g .directions) && true)) (d .map)
+          (grid-and (g .n) (g .m) (g .grid) (long (g .directions) && true) (d .map) (rw (and-true (long (g .directions)) _ (d .lent) .0)))
+
+      as-planned : Planned o ≡ answer g
+      unfolding plan-repair
+      as-planned = answer-accepted refl _ planner-passes found
+
+      as-left : ds ≡ planned-directions g
+      unfolding directions-after
+      as-left = written-accepted refl _ _ planner-passes left
+
+      answered : Planned o ≡ run-answer g
       unfolding run-answer
-      answer-passed = planned ∙ ap (λ (w : Verdict). unless-refused w (answer g)) (sym passed ∙ tested)
+      answered = as-planned ∙ ap (λ (w : Verdict). unless-refused w (answer g)) (sym passes)
 
-      directions-passed : ds ≡ run-directions g
+      directions-left : ds ≡ run-directions g
       unfolding run-directions
-      directions-passed = left ∙ ap (λ (w : Verdict). written w (planned-directions g) (g .directions)) (sym passed ∙ tested)
+      directions-left = written-accepted refl _ _ passes as-left
 
-      repaired-as : {b : Bool} → is-repaired a ≡ b → is-repaired (run-answer g) ≡ b
-      repaired-as h = ap is-repaired (sym answer-passed) ∙ h
-
-      pub ran-planned : is-repaired a ≡ false → Ran-as g (record { answer = a; links = 0 }) ds (g .places) (g .across) (g .down)
+      pub ran-planned : is-repaired (Planned o) ≡ false
+          → Ran-as g (record { answer = Planned o; links = 0 }) ds (g .places) (g .across) (g .down)
       ran-planned h =
-          let e = repaired-as h in
-          record {
-            answers = ap told answer-passed;
-            counts = links-if e;
-            directions-are = directions-passed;
-            places-are = places-if e;
-            across-are = across-if e;
-            down-are = down-if e;
-            demand-3 = demand;
-            spoken-of = λ p. (planned, left);
-            after-repaired = λ p. absurd (false≢true (sym h ∙ p));
-          }
+          ran answered h directions-left (λ p. (as-planned, as-left)) refl refl refl refl (λ f. absurd (false≢true f))
 
-      pub ran-repaired : is-repaired a ≡ true → {k : ℕ} {places across down : List ℕ}
-          → k ≡ links-found (g .n) (g .m) (g .grid) ds (g .places) (g .across) (g .down)
-          → places ≡ places-after (g .n) (g .m) (g .grid) ds (g .places)
-          → across ≡ across-after (g .n) (g .m) (g .grid) ds (g .across) (g .down)
-          → down ≡ down-after (g .n) (g .m) (g .grid) ds (g .across) (g .down)
-          → Ran-as g (record { answer = a; links = k }) ds places across down
-      ran-repaired h l p x y =
-          let e = repaired-as h in
-          let k = l ∙ ap (λ (d : List ℕ). links-found (g .n) (g .m) (g .grid) d (g .places) (g .across) (g .down)) left ∙ links-if e in
-          let placed = p ∙ ap (λ (d : List ℕ). places-after (g .n) (g .m) (g .grid) d (g .places)) left in
-          let set-across = x ∙ ap (λ (d : List ℕ). across-after (g .n) (g .m) (g .grid) d (g .across) (g .down)) left in
-          let set-down = y ∙ ap (λ (d : List ℕ). down-after (g .n) (g .m) (g .grid) d (g .across) (g .down)) left in
-          record {
-            answers = ap told answer-passed;
-            counts = k;
-            directions-are = directions-passed;
-            places-are = placed ∙ places-if e;
-            across-are = set-across ∙ across-if e;
-            down-are = set-down ∙ down-if e;
-            demand-3 = demand;
-            spoken-of = λ p. (planned, left);
-            after-repaired = λ p. (placed, set-across, set-down, k ∙ every-link g u32 e);
-          }
+      module _ (repaired : is-repaired (Planned o) ≡ true) where
+        after : After-repaired g
+        after = repaired-after g (demand passes .1) o as-planned repaired
+
+        pub accepts : Accepts (g .n) (g .m) (g .grid) ds (g .places) (g .across) (g .down)
+        accepts = rw as-left (record { placing = after .placing-accepted; routing = after .routing-accepted })
+
+        pub ran-repaired : {k : ℕ} {places across down : List ℕ}
+            → k ≡ links-found (g .n) (g .m) (g .grid) ds (g .places) (g .across) (g .down)
+            → places ≡ places-after (g .n) (g .m) (g .grid) ds (g .places)
+            → across ≡ across-after (g .n) (g .m) (g .grid) ds (g .across) (g .down)
+            → down ≡ down-after (g .n) (g .m) (g .grid) ds (g .across) (g .down)
+            → Ran-as g (record { answer = Planned o; links = k }) ds places across down
+        ran-repaired l p x y =
+            ran answered repaired directions-left (λ q. (as-planned, as-left))
+            (rw as-left at l) (rw as-left at p) (rw as-left at x) (rw as-left at y) (λ f. all-found g (demand passes .0) after)

@@ -5,10 +5,12 @@ use track::Followed;
 use trials::Outcome;
 ghost use mathlib.Core.Path.{_≡_};
 ghost use Prim.Native.Nat.{_≤_, _<_};
-ghost use lib.ListN.{length};
+ghost use lib.ListN.{length, getD};
 ghost use Rattle.track.specs.Ports.{wafer};
 ghost use Rattle.repair.specs.Operations.{places-after, across-after, down-after};
+ghost use Rattle.repair.specs.declared.Answer.the-variants.{Planned};
 ghost use Rattle.runs.specs.Run.{given, is-repaired, has-neighbour, neighbour-of, arrives-at, reached, links-reached, all-reached, links-found, Ran-as};
+ghost use Rattle.runs.specs.Inner.{Accepts, Laid};
 
 // What a run answers: the refusal of its tests or the planner's answer, and how many links to a neighbour the follower found to reach it.
 pub struct Ran {
@@ -18,12 +20,9 @@ pub struct Ran {
 
 // repair_run is for callers; the other functions are inner parts.
 
-fn is_repaired(answer: Answer) -> bool
-    ensures { λ r. ⌜ r ≡ is-repaired answer ⌝ }
+fn is_repaired(outcome: Outcome) -> bool
+    ensures { λ r. ⌜ r ≡ is-repaired (Planned outcome) ⌝ }
 {
-    let Answer::Planned(outcome) = answer else {
-        return false;
-    };
     match outcome {
         Outcome::Repaired(_) => true,
         Outcome::Beyond(_) => false,
@@ -50,6 +49,14 @@ fn neighbour(side: usize, p: usize) -> usize
     if side == 0 { p + 1 } else { p + 32 }
 }
 
+// The position that holds the cell at p.
+fn held_at(places: &[u16], p: usize) -> usize
+    requires { ⌜ (length (now places) ≡ 1024) × (p < 1024) ⌝ }
+    ensures { λ r. ⌜ r ≡ getD (now (places .entry)) p 0 ⌝ }
+{
+    plans::wide(places[p])
+}
+
 // Whether the follower's answer is that the link enters at q, by the port of its side (W or N), over at most three switches.
 fn arrives(q: usize, side: usize, f: Followed) -> bool
     requires { ⌜ side < 2 ⌝ }
@@ -74,14 +81,16 @@ fn is_reached(
     side: usize,
     p: usize,
 ) -> bool
-    requires { ⌜ (n ≤ 30) × (m ≤ 30) × (length (now places) ≡ 1024) × (side < 2) × (p < 1024) ⌝ }
+    requires { ⌜ Laid (wafer n m (now grid) (now directions) (now across) (now down)) (now places) × (side < 2) × (p < 1024) ⌝ }
     ensures { λ r. ⌜ r ≡ reached (wafer n m (now (grid .entry)) (now (directions .entry)) (now (across .entry)) (now (down .entry))) (now (places .entry)) side p 0 ⌝ }
 {
     if !has_neighbour(n, m, side, p) {
         return false;
     }
-    let f = repair::follow_link(n, m, grid, directions, across, down, p, side);
-    arrives(plans::wide(places[neighbour(side, p)]), side, f)
+    let from = held_at(places, p);
+    let to = held_at(places, neighbour(side, p));
+    let f = follower::follow(n, m, grid, directions, across, down, from, side as u8);
+    arrives(to, side, f)
 }
 
 // How many links on a side are found to reach their neighbour.
@@ -95,7 +104,7 @@ fn count_links(
     down: &[u8],
     side: usize,
 ) -> usize
-    requires { ⌜ (n ≤ 30) × (m ≤ 30) × (length (now grid) ≡ 1024) × (length (now places) ≡ 1024) × (side < 2) ⌝ }
+    requires { ⌜ Laid (wafer n m (now grid) (now directions) (now across) (now down)) (now places) × (side < 2) ⌝ }
     ensures { λ r. ⌜ (r ≡ links-reached (wafer n m (now (grid .entry)) (now (directions .entry)) (now (across .entry)) (now (down .entry))) (now (places .entry)) side) × (r ≤ 1024) ⌝ }
 {
     let mut count = 0;
@@ -117,7 +126,7 @@ fn count_all(
     across: &[u8],
     down: &[u8],
 ) -> usize
-    requires { ⌜ (n ≤ 30) × (m ≤ 30) × (length (now grid) ≡ 1024) × (length (now places) ≡ 1024) ⌝ }
+    requires { ⌜ Laid (wafer n m (now grid) (now directions) (now across) (now down)) (now places) ⌝ }
     ensures { λ r. ⌜ r ≡ all-reached (wafer n m (now (grid .entry)) (now (directions .entry)) (now (across .entry)) (now (down .entry))) (now (places .entry)) ⌝ }
 {
     let east = count_links(n, m, grid, directions, places, across, down, 0);
@@ -125,7 +134,8 @@ fn count_all(
     east + south
 }
 
-// The calls that follow on `repaired`; returns how many links are found to reach their neighbour.
+// After `repaired`, where placement and routing would accept: writes both, and returns how many links are then found to reach their
+// neighbour.
 fn complete(
     n: usize,
     m: usize,
@@ -135,20 +145,14 @@ fn complete(
     across: &mut [u8],
     down: &mut [u8],
 ) -> usize
-    requires { ⌜ (n ≤ 30) × (m ≤ 30) × (length (now grid) ≡ 1024) × (length (now places) ≡ 1024) ⌝ }
+    requires { ⌜ Accepts n m (now grid) (now directions) (now places) (now across) (now down) ⌝ }
     ensures links { λ r. ⌜ r ≡ links-found n m (now (grid .entry)) (now (directions .entry)) (now (places .entry)) (now (across .entry)) (now (down .entry)) ⌝ }
     ensures places { λ _. ⌜ now (places .exit) ≡ places-after n m (now (grid .entry)) (now (directions .entry)) (now (places .entry)) ⌝ }
     ensures across { λ _. ⌜ now (across .exit) ≡ across-after n m (now (grid .entry)) (now (directions .entry)) (now (across .entry)) (now (down .entry)) ⌝ }
     ensures down { λ _. ⌜ now (down .exit) ≡ down-after n m (now (grid .entry)) (now (directions .entry)) (now (across .entry)) (now (down .entry)) ⌝ }
 {
-    let placed = repair::place_cells(n, m, grid, directions, places);
-    let routed = repair::route_switches(n, m, grid, directions, across, down);
-    if let Verdict::Refused(_) = placed {
-        return 0;
-    }
-    if let Verdict::Refused(_) = routed {
-        return 0;
-    }
+    routing::place(n, m, grid, directions, places);
+    routing::route(n, m, grid, directions, across, down);
     count_all(n, m, grid, directions, places, across, down)
 }
 
@@ -176,8 +180,9 @@ pub fn repair_run(
             links: 0,
         };
     }
-    let answer = repair::plan_repair(n, m, grid, directions, limit);
-    if !is_repaired(answer) {
+    let outcome = trials::find_plan(n, m, grid, directions, limit);
+    let answer = Answer::Planned(outcome);
+    if !is_repaired(outcome) {
         return Ran { answer, links: 0 };
     }
     let links = complete(n, m, grid, directions, places, across, down);

@@ -1,27 +1,23 @@
 -- `runs::is_reached` meets its contract: a link is followed where there is a neighbour to reach.
 -- Assumes nothing.
 use mathlib.Core.Path.{_≡_, sym, ap, _∙_}
-use Prim.Native.Nat.{ℕ, _<_}
+use mathlib.Core.Bool.{true}
+use Prim.Native.Nat.{ℕ}
 use native.Mathlib.Omega.{arith}
 use borrow.Author.Needs.{needs}
 use borrow.Author.Tests.{not-false}
 use denote.Ref.{now}
 use lib.ListN.{getD}
-use Rattle.track.specs.Ports.{wafer}
-use Rattle.repair.specs.Operations.{follow-link}
-use Rattle.repair.proofs.Answers.{answers-kept}
-use Rattle.runs.specs.Run.{neighbour-of, arrives-at}
-use Rattle.runs.proofs.Finding.{and-stops, and-passes, neighbour-low}
+use Rattle.runs.specs.Run.{has-neighbour}
+use Rattle.runs.proofs.Finding.{and-stops, and-passes, held-long, neighbour-low, held-low, arrives-held}
 use Rattle.runs.proofs.is_reached.Statement.{statement}
 use Rattle.runs.proofs.is_reached.Tie as tie
 
--- the neighbour's place
-low : (c : tie.After-neighbour) → c .neighbour .result < 1024
-low c =
-    let s = c .before .before .before .before .before .before .before .before .before in
-    let a = s .args in
-    let h = sym (c .before .before .before .has-neighbour .ensures) ∙ not-false _ (c .before .before .if1 .left) in
-    omega (arith, c .neighbour .ensures, neighbour-low (a .n) (a .m) (a .side) (a .p) (s .pre .0) (s .pre .1) h)
+abbrev start : tie.Else1 → tie.Start
+start c = c .before .before .before .before .before .before .before
+
+has : (c : tie.Else1) → let a = start c .args in has-neighbour (a .n) (a .m) (a .side) (a .p) ≡ true
+has c = sym (c .before .has-neighbour .ensures) ∙ not-false _ (c .if1 .left)
 
 has-neighbour-requires : tie.Need-has-neighbour-requires
 has-neighbour-requires c κs = search needs
@@ -29,37 +25,42 @@ has-neighbour-requires c κs = search needs
 returns : tie.Need-returns
 returns c = and-stops (c .before .has-neighbour .ensures) _ (c .if1 .taken)
 
-follow-link-requires : tie.Need-follow-link-requires
-follow-link-requires c κs = search needs
+held-at-requires : tie.Need-held-at-requires
+held-at-requires c κs = let s = start c in (held-long (s .pre .0), s .pre .2)
 
 neighbour-requires : tie.Need-neighbour-requires
 neighbour-requires c κs = search needs
 
-mul-wide : tie.Need-mul-wide
-mul-wide c = omega (arith, low c)
+held-at-requires-2 : tie.Need-held-at-requires-2
+held-at-requires-2 c κs =
+    let e = c .before .before in
+    let s = start e in
+    let l = neighbour-low (s .pre .0) (s .args .side) (s .args .p) (s .pre .1) (has e) in
+    (held-long (s .pre .0), omega (arith, c .neighbour .ensures, l))
 
-shared-slice-read-wide : tie.Need-shared-slice-read-wide
-shared-slice-read-wide c = omega (arith, low (c .before), c .before .before .before .before .before .before .before .before .before .before .pre .2)
+cast-follow : tie.Need-cast-follow
+cast-follow c = search needs
 
-wide-requires : tie.Need-wide-requires
-wide-requires c κs = search needs
+follow-requires : tie.Need-follow-requires
+follow-requires c κs =
+    let h = c .before .before in
+    let s = start (h .before) in
+    let l = held-low (s .pre .0) (s .args .side) (s .args .p) (s .pre .1) (has (h .before)) in
+    (s .pre .0 .ready, omega (arith, h .held-at .ensures, l), omega (arith, s .pre .1))
 
 arrives-requires : tie.Need-arrives-requires
 arrives-requires c κs = search needs
 
 returns-2 : tie.Need-returns-2
 returns-2 c =
-    let s = c .before .before .before .before .before .before .before .before .before .before .before .before in
-    let a = s .args in
-    let f = c .before .before .before .before .follow-link in
-    let w = wafer (a .n) (a .m) (now (a .grid)) (now (a .directions)) (now (a .across)) (now (a .down)) in
-    let q : c .before .wide .result ≡ getD (now (a .places)) (neighbour-of (a .side) (a .p)) 0 =
-    c .before .wide .ensures ∙ ap (λ (i : ℕ). getD (now (a .places)) i 0) (c .before .before .before .neighbour .ensures) in
-    and-passes (c .before .before .before .before .before .before .has-neighbour .ensures) _ (c .before .before .before .before .before .if1 .left)
-    (c .arrives .ensures
-    ∙ ap (λ (i : ℕ). arrives-at i (a .side) (f .result)) q
-    ∙ ap (arrives-at (getD (now (a .places)) (neighbour-of (a .side) (a .p)) 0) (a .side))
-    (answers-kept .follower (f .result) (follow-link w (a .p) (a .side)) (f .ensures)))
+    let t = c .before .before in
+    let h = t .before .before in
+    let e = h .before in
+    let s = start e in
+    let to = ap (λ (i : ℕ). getD (now (s .args .places)) i 0) (t .before .neighbour .ensures) in
+    and-passes (e .before .has-neighbour .ensures) _ (e .if1 .left)
+    (arrives-held (s .pre .0) (s .args .side) (s .args .p) (s .pre .1) (has e) (h .held-at .ensures) (t .held-at2 .ensures ∙ to)
+    (c .before .follow .ensures) (c .arrives .ensures))
 
 pub is-reached-spec : {M : Type 1} → statement M
 is-reached-spec =
@@ -67,10 +68,10 @@ is-reached-spec =
     (tie.spec
     has-neighbour-requires
     returns
-    follow-link-requires
+    held-at-requires
     neighbour-requires
-    mul-wide
-    shared-slice-read-wide
-    wide-requires
+    held-at-requires-2
+    cast-follow
+    follow-requires
     arrives-requires
     returns-2)

@@ -11,32 +11,29 @@ use Rattle.array.specs.Buffer.{long}
 use Rattle.array.specs.Map.{map-tests}
 use Rattle.array.proofs.Bools.{and-true, and-one}
 use Rattle.array.proofs.Maps.{map-accepted}
-use Rattle.repair.specs.Demand3.{Given, answer}
-use Rattle.repair.proofs.Answers.{answers-kept}
+use Rattle.repair.specs.Demand3.{Given}
+use Rattle.repair.proofs.Calls.{front-long}
 use Rattle.runs.specs.Run.{given, run-test}
-use Rattle.runs.proofs.Running.{ran-refused, ran-planned, ran-repaired}
+use Rattle.runs.proofs.Running.{ran-refused, ran-planned, accepts, ran-repaired}
 use Rattle.runs.proofs.repair_run.Statement.{statement}
 use Rattle.runs.proofs.repair_run.Tie as tie
 
 -- the arguments of the run
-abbrev args : tie.Start → Given
-args s =
-    let a = s .args in
+abbrev args : tie.After-check-map → Given
+args c =
+    let a = c .before .before .before .before .before .before .args in
     given (a .n) (a .m) (now (a .grid)) (a .limit) (now (a .directions)) (now (a .places)) (now (a .across)) (now (a .down))
 
-u32 : (s : tie.Start) → s .args .limit < 4294967296
-u32 s = omega (arith, s .fits .limit)
+u32 : (c : tie.After-check-map) → args c .limit < 4294967296
+u32 c = omega (arith, c .before .before .before .before .before .before .fits .limit)
 
 -- what the tests answer
-tested : (c : tie.After-check-map) → c .check-map .result ≡ run-test (args (c .before .before .before .before .before .before))
+tested : (c : tie.After-check-map) → c .check-map .result ≡ run-test (args c)
 tested c =
-    let g = args (c .before .before .before .before .before .before) in
+    let g = args c in
     c .check-map .ensures
     ∙ ap (λ (r : Bool). map-tests (g .n) (g .m) (long (g .grid) && (long (g .directions) && (long (g .places) && (long (g .across) && r)))) (g .grid))
     (sym (and-one (long (g .down))))
-
-planned : (c : tie.After-plan-repair) → c .plan-repair .result ≡ answer (args (c .before .before .before .before .before .before .before .before .before .before))
-planned c = answers-kept .planner (c .plan-repair .result) (answer (args (c .before .before .before .before .before .before .before .before .before .before))) (c .plan-repair .ensures .0)
 
 check-map-requires : tie.Need-check-map-requires
 check-map-requires c κs = λ h. eqb-true _ _ (and-true (long (now (c .before .before .before .before .before .args .grid))) _ h .0)
@@ -45,13 +42,19 @@ enum-known-v : tie.Need-enum-known-v
 enum-known-v c = search needs
 
 returns : tie.Need-returns
-returns c = ran-refused (args (c .before .before .before .before .before .before .before .before .before)) (u32 (c .before .before .before .before .before .before .before .before .before)) (tested (c .before .before .before)) (c .before .v .given .1)
+returns c = let q = c .before .before .before in ran-refused (args q) (u32 q) (tested q) (c .before .v .given .1)
 
 enum-told : tie.Need-enum-told
 enum-told c = search needs
 
-plan-repair-requires : tie.Need-plan-repair-requires
-plan-repair-requires c κs = search needs
+find-plan-requires : tie.Need-find-plan-requires
+find-plan-requires c κs =
+    let t = c .before in
+    let q = t .before .before in
+    let g = args q in
+    let m = map-accepted (g .n) (g .m) _ (g .grid) (sym (q .check-map .ensures) ∙ t .enum-told .given .1) in
+    let l = front-long (g .grid) (g .directions) _ (m .lengths) in
+    (m .sizes .rows-high, m .sizes .columns-high, l .0, l .1)
 
 is-repaired-requires : tie.Need-is-repaired-requires
 is-repaired-requires c κs = search needs
@@ -61,21 +64,20 @@ same-length c = search needs
 
 returns-2 : tie.Need-returns-2
 returns-2 c =
-    let p = c .before .before .before .before in
-    let t = p .before .before in
+    let f = c .before .before .before .before in
+    let t = f .before .before in
     let q = t .before .before in
-    ran-planned (args (q .before .before .before .before .before .before)) (u32 (q .before .before .before .before .before .before)) (tested q) (t .enum-told .given .1) (planned p) (p .plan-repair .ensures .1)
+    ran-planned (args q) (u32 q) (tested q) (t .enum-told .given .1) (f .find-plan .ensures .0) (f .find-plan .ensures .1)
     (sym (c .before .is-repaired .ensures) ∙ not-true _ (c .if1 .taken))
 
 complete-requires : tie.Need-complete-requires
 complete-requires c κs =
-    let t = c .before .before .before .before .before .before .before .before .before .before in
+    let i = c .before .before .before .before in
+    let f = i .before .before .before .before in
+    let t = f .before .before in
     let q = t .before .before in
-    let g = args (q .before .before .before .before .before .before) in
-    let m = map-accepted (g .n) (g .m) _ (g .grid) (sym (q .check-map .ensures) ∙ t .enum-told .given .1) in
-    let l = and-true (long (g .grid)) _ (m .lengths) in
-    let p = and-true (long (g .places)) _ (and-true (long (g .directions)) _ (l .1) .1) in
-    (m .sizes .rows-high, m .sizes .columns-high, eqb-true _ _ (l .0), eqb-true _ _ (p .0))
+    accepts (args q) (u32 q) (tested q) (t .enum-told .given .1) (f .find-plan .ensures .0) (f .find-plan .ensures .1)
+    (sym (i .before .is-repaired .ensures) ∙ not-false _ (i .if1 .left))
 
 same-length-2 : tie.Need-same-length-2
 same-length-2 c = search needs
@@ -91,14 +93,14 @@ same-length-5 c = search needs
 
 returns-3 : tie.Need-returns-3
 returns-3 c =
-    let f = c .before .before .before .before .before .before in
-    let i = f .before .before .before .before .before .before in
-    let p = i .before .before .before in
-    let t = p .before .before in
+    let k = c .before .before .before .before .before .before in
+    let i = k .before .before .before .before .before in
+    let f = i .before .before .before .before in
+    let t = f .before .before in
     let q = t .before .before in
-    let e = f .complete .ensures in
-    ran-repaired (args (q .before .before .before .before .before .before)) (u32 (q .before .before .before .before .before .before)) (tested q) (t .enum-told .given .1) (planned p) (p .plan-repair .ensures .1)
-    (sym (i .is-repaired .ensures) ∙ not-false _ (f .before .before .before .before .before .if1 .left)) (e .0) (e .1 .0) (e .1 .1 .0) (e .1 .1 .1)
+    let e = k .complete .ensures in
+    ran-repaired (args q) (u32 q) (tested q) (t .enum-told .given .1) (f .find-plan .ensures .0) (f .find-plan .ensures .1)
+    (sym (i .before .is-repaired .ensures) ∙ not-false _ (i .if1 .left)) (e .0) (e .1 .0) (e .1 .1 .0) (e .1 .1 .1)
 
 pub repair-run-spec : {M : Type 1} → statement M
 repair-run-spec =
@@ -108,7 +110,7 @@ repair-run-spec =
     enum-known-v
     returns
     enum-told
-    plan-repair-requires
+    find-plan-requires
     is-repaired-requires
     same-length
     returns-2
