@@ -206,8 +206,7 @@ fn search(n: usize, m: usize, grid: &[u8], starts: &[u16], chosen: &mut [u8], li
     Outcome::Repaired(spent)
 }
 
-pub fn plan_repair(n: usize, m: usize, grid: &[u8], directions: &mut [u8], limit: u32) -> Result<Outcome, Refusal> {
-    check_map(n, m, grid.len() == LONG && directions.len() == LONG, grid)?;
+fn find_plan(n: usize, m: usize, grid: &[u8], directions: &mut [u8], limit: u32) -> Outcome {
     let mut starts = [0u16; LONG];
     let mut chosen = [0u8; LONG];
     let count = list_faults(n, m, grid, &mut starts);
@@ -218,7 +217,12 @@ pub fn plan_repair(n: usize, m: usize, grid: &[u8], directions: &mut [u8], limit
             directions[starts[k] as usize] = chosen[k];
         }
     }
-    Ok(found)
+    found
+}
+
+pub fn plan_repair(n: usize, m: usize, grid: &[u8], directions: &mut [u8], limit: u32) -> Result<Outcome, Refusal> {
+    check_map(n, m, grid.len() == LONG && directions.len() == LONG, grid)?;
+    Ok(find_plan(n, m, grid, directions, limit))
 }
 
 // Placement and routing.
@@ -306,12 +310,16 @@ fn fill_letters(n: usize, m: usize, grid: &[u8], traced: &[u8; LONG], down: bool
     }
 }
 
-pub fn route_switches(n: usize, m: usize, grid: &[u8], directions: &[u8], across: &mut [u8], down: &mut [u8]) -> Tested {
-    let right = grid.len() == LONG && directions.len() == LONG && across.len() == LONG && down.len() == LONG;
-    check_tests(n, m, right, grid, directions)?;
+fn route(n: usize, m: usize, grid: &[u8], directions: &[u8], across: &mut [u8], down: &mut [u8]) {
     let traced = trace_paths(n, m, grid, directions);
     fill_letters(n, m, grid, &traced, false, across);
     fill_letters(n, m, grid, &traced, true, down);
+}
+
+pub fn route_switches(n: usize, m: usize, grid: &[u8], directions: &[u8], across: &mut [u8], down: &mut [u8]) -> Tested {
+    let right = grid.len() == LONG && directions.len() == LONG && across.len() == LONG && down.len() == LONG;
+    check_tests(n, m, right, grid, directions)?;
+    route(n, m, grid, directions, across, down);
     Ok(())
 }
 
@@ -461,6 +469,51 @@ pub fn follow_link(w: &Wafer, cell: usize, side: usize) -> Result<Landing, Refus
     let mut places = [0u16; LONG];
     place(w.n, w.m, w.grid, w.directions, &mut places);
     follow(w, places[cell] as usize, side as u8)
+}
+
+// A run.
+
+fn has_neighbour(n: usize, m: usize, side: usize, p: usize) -> bool {
+    is_inner(n, m, p) && if side == 0 { p % 32 < m } else { p / 32 < n }
+}
+
+fn is_reached(w: &Wafer, places: &[u16], side: usize, p: usize) -> bool {
+    if !has_neighbour(w.n, w.m, side, p) {
+        return false;
+    }
+    let to = places[if side == 0 { p + 1 } else { p + 32 }] as usize;
+    match follow(w, places[p] as usize, side as u8) {
+        Ok(l) => l.position == to && l.port as usize == 2 * side && l.switches <= 3,
+        Err(_) => false,
+    }
+}
+
+fn count_links(w: &Wafer, places: &[u16], side: usize) -> usize {
+    (0..LONG).filter(|&p| is_reached(w, places, side, p)).count()
+}
+
+/// The outcome, and after `Repaired` how many links to a neighbour are found to reach it.
+#[allow(clippy::too_many_arguments)]
+pub fn repair_run(
+    n: usize,
+    m: usize,
+    grid: &[u8],
+    limit: u32,
+    directions: &mut [u8],
+    places: &mut [u16],
+    across: &mut [u8],
+    down: &mut [u8],
+) -> Result<(Outcome, usize), Refusal> {
+    let lent = grid.len() == LONG && directions.len() == LONG && places.len() == LONG;
+    check_map(n, m, lent && across.len() == LONG && down.len() == LONG, grid)?;
+    let found = find_plan(n, m, grid, directions, limit);
+    let Outcome::Repaired(_) = found else {
+        return Ok((found, 0));
+    };
+    place(n, m, grid, directions, places);
+    route(n, m, grid, directions, across, down);
+    let wafer = Wafer { n, m, grid, directions, across, down };
+    Ok((found, count_links(&wafer, places, 0) + count_links(&wafer, places, 1)))
 }
 
 // The map reader.

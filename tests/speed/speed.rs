@@ -191,6 +191,45 @@ fn compare_plan(faults: usize) {
     );
 }
 
+/// The lent buffers of a run.
+struct Buffers {
+    directions: Vec<u8>,
+    places: Vec<u16>,
+    across: Vec<u8>,
+    down: Vec<u8>,
+}
+
+impl Buffers {
+    fn new() -> Buffers {
+        Buffers { directions: vec![0; LONG], places: vec![0; LONG], across: vec![0; LONG], down: vec![0; LONG] }
+    }
+}
+
+fn compare_run(faults: usize) {
+    let limit = 100_000;
+    let grid = find_map(faults, limit, |o| matches!(o, Outcome::Repaired(_)));
+    let (mut a, mut b) = (Buffers::new(), Buffers::new());
+    let mut library = || {
+        let (d, p, x, y) = (&mut a.directions, &mut a.places, &mut a.across, &mut a.down);
+        black_box(chantspruce::repair_run(30, 30, black_box(&grid), limit, d, p, x, y)).expect("a run").links
+    };
+    let mut rust = || {
+        let (d, p, x, y) = (&mut b.directions, &mut b.places, &mut b.across, &mut b.down);
+        black_box(same::repair_run(30, 30, black_box(&grid), limit, d, p, x, y)).expect("a run").1
+    };
+    assert_eq!((library(), rust()), (1740, 1740));
+    compare(
+        &format!("repair_run, 30 x 30, {faults} faults"),
+        20,
+        &mut || {
+            library();
+        },
+        &mut || {
+            rust();
+        },
+    );
+}
+
 /// Prints the microseconds from the bytes of an example's map file to its listing, which is all that the bench program does between reading and
 /// writing.
 fn measure_listing(name: &str) {
@@ -211,6 +250,7 @@ fn main() {
     compare_reading();
     compare_plan(20);
     compare_plan(50);
+    compare_run(20);
     for name in ["first", "large", "beyond", "spent"] {
         measure_listing(name);
     }
