@@ -12,7 +12,7 @@ use Rattle.array.specs.declared.Verdict.{Verdict}
 use Rattle.array.specs.declared.Verdict.the-variants.{Accepted}
 use Rattle.array.proofs.Numbered.{map-numbered}
 use Rattle.plans.proofs.Numbered.{plan-numbered}
-use Rattle.lists.proofs.ListNumbered.{fault-list-numbered}
+use Rattle.lists.proofs.Numbered.{fault-list-numbered}
 use Rattle.trials.specs.declared.Outcome.the-variants.{Repaired, Beyond, Spent}
 use Rattle.track.specs.declared.Followed.{Followed}
 use Rattle.repair.specs.Operations.{place-cells, route-switches}

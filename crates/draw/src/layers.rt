@@ -144,7 +144,7 @@ fn joined(direction: u8) -> u8 {
 
 // The processor at p: inner, spare, or a fault with what its path joins.
 fn processor(n: usize, m: usize, mark: u8, direction: u8, p: usize) {
-    if mark == 1 {
+    if array::is_faulty(mark) {
         symbol(b'f', joined(direction), p);
     }
     if mark == 0 {

@@ -4,4 +4,4 @@ pub mod ListAccepts
 pub mod ListExamples
 pub mod Cells
 pub mod Fronts
-pub mod ListNumbered
+pub mod Numbered

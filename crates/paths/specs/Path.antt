@@ -1,5 +1,6 @@
--- Document 01, "Paths and plans": a path is given by the position p of its fault and its direction d. It is the compensation path of Kung, Jean
--- and Chang, "Fault-Tolerant Array Processors Using Single-Track Switches"; open paths, no meeting and no near-miss are its conditions.
+-- Document 01, "Paths and plans": a path is given by the position p of its fault and its direction d. It is the
+-- compensation path of Kung, Jean and Chang, "Fault-Tolerant Array Processors Using Single-Track Switches", whose reconfigurability
+-- theorem asks for open paths that neither meet nor nearly miss.
 -- Assumes nothing.
 use Prim.Native.Nat.{ℕ, _+_, _-_, _*_, _≤_}
 use mathlib.Core.Path.{_≡_}
@@ -74,21 +75,22 @@ near-miss p d q e = (south-north p d q e || east-west p d q e) || (south-north q
 unfoldable pub clash : ℕ → ℕ → ℕ → ℕ → ℕ → ℕ → Clash
 clash n m p d q e = cond (meet n m p d q e) Meet (cond (near-miss p d q e) NearMiss Clear)
 
--- two paths neither meet nor nearly miss
 abbrev pub is-clear : Clash → Bool
 is-clear Clear = true
 is-clear Meet = false
 is-clear NearMiss = false
 
+-- two paths neither meet nor nearly miss
 unfoldable pub clear : ℕ → ℕ → ℕ → ℕ → ℕ → ℕ → Bool
 clear n m p d q e = is-clear (clash n m p d q e)
 
--- 6 where they meet, 7 where they are a near-miss, with both starts
+-- 6 of two that meet, 7 of a near-miss, with both starts
 abbrev pub refuse-clash : ℕ → ℕ → Clash → Verdict
 refuse-clash p q Clear = Accepted
 refuse-clash p q Meet = refuse 6 p q
 refuse-clash p q NearMiss = refuse 7 p q
 
+-- what the plan check says of two paths
 unfoldable pub pair-test : ℕ → ℕ → ℕ → ℕ → ℕ → ℕ → Verdict
 pair-test n m p d q e = refuse-clash p q (clash n m p d q e)
 

@@ -128,7 +128,7 @@ fn is_near_miss(p: usize, d: u8, q: usize, e: u8) -> bool
 }
 
 // How two paths from distinct starts clash.
-pub fn find_clash(n: usize, m: usize, p: usize, d: u8, q: usize, e: u8) -> Clash
+fn find_clash(n: usize, m: usize, p: usize, d: u8, q: usize, e: u8) -> Clash
     requires { ⌜ Start n m p d × Start n m q e × (p ≡ q → ⊥) ⌝ }
     ensures { λ r. ⌜ r ≡ clash n m p d q e ⌝ }
 {

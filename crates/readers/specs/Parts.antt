@@ -31,6 +31,7 @@ abbrev pub value-at : Kind → List ℕ → ℕ → Number
 value-at Map s at = Read 1 at
 value-at Plan s at = number-at s at
 
+-- what a record may write: the mark of a fault, or one of the four directions
 abbrev pub is-value : Kind → ℕ → Bool
 is-value Map v = eqb v 1
 is-value Plan v = leb 1 v && leb v 4

@@ -102,7 +102,7 @@ fn read_value(kind: Kind, s: &[u8], at: usize) -> Number
     }
 }
 
-// Whether a record may write a value.
+// Whether a record may write a value: a fault's mark, which is 1, or one of the four directions.
 fn may_write(kind: Kind, v: u32) -> bool
     ensures { λ r. ⌜ r ≡ is-value kind v ⌝ }
 {

@@ -28,8 +28,7 @@ keeps-on n m grid = keeps (is-open n m grid) (clear n m)
 abbrev pub Straight-front : List ℕ → ℕ → Type 0
 Straight-front chosen k = (i : ℕ) → i < k → (1 ≤ getD chosen i 0) × (getD chosen i 0 ≤ 4)
 
--- what the search works over: an array of at most 30 by 30, its grid, the ascending inner starts, and room
--- for a direction for each
+-- what the search works over: an array of at most 30 by 30, its grid, the ascending inner starts, and room for a direction for each
 pub record Searchable (n m : ℕ) (grid starts chosen : List ℕ) : Type 0 where
   pub rows : n ≤ 30
   pub columns : m ≤ 30
