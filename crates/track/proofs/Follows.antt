@@ -177,33 +177,28 @@ unfolding judged switches
 comes-in grid c k (passes i q t) l h e =
     by-bool (is-switch (i .node)) (through (λ z b. comes-in grid (position-of (i .node)) (suc k) t l b z)) (fault (λ z. comes-in grid c k t l h z))
   where
+    -- from the rest of the trail, with j switches passed before it
+    passing : (j : ℕ) → Comes-in grid j t l → j + switches t ≡ k + switches (passes i q t) → Comes-in grid k (passes i q t) l
+    passing j r x =
+        record {
+          end = r .end;
+          ends = r .ends;
+          healthy-end = r .healthy-end;
+          few = omega (arith, r .few, x);
+          is = r .is ∙ same-landing _ _ _ _ x;
+        }
+
     through : (judged grid (position-of (i .node)) (suc k) t ≡ Entered l → suc k ≤ 3 → Comes-in grid (suc k) t l)
         → is-switch (i .node) ≡ true → Comes-in grid k (passes i q t) l
     through ih s =
         by-bool (eqb k 3) (λ z. not-entered 18 (position-of (i .node)) l (sym (judged-fourth grid c k i q t s (eqb-true k 3 z)) ∙ e))
         (λ z.
         let n : (k ≡ 3 → ⊥) = eqb-false k 3 z in
-        let r = ih (sym (judged-switch grid c k i q t s n) ∙ e) (omega arith) in
-        let x = switches-switch grid c k i q t s in
-        record {
-          end = r .end;
-          ends = r .ends;
-          healthy-end = r .healthy-end;
-          few = omega (arith, r .few, x);
-          is = r .is ∙ same-landing _ _ _ _ (omega (arith, x));
-        })
+        passing (suc k) (ih (sym (judged-switch grid c k i q t s n) ∙ e) (omega arith)) (omega (arith, switches-switch grid c k i q t s)))
 
     fault : (judged grid c k t ≡ Entered l → Comes-in grid k t l) → is-switch (i .node) ≡ false → Comes-in grid k (passes i q t) l
     fault ih s =
-        let r = ih (sym (judged-fault grid c k i q t s) ∙ e) in
-        let x = switches-fault grid c k i q t s in
-        record {
-          end = r .end;
-          ends = r .ends;
-          healthy-end = r .healthy-end;
-          few = omega (arith, r .few, x);
-          is = r .is ∙ same-landing _ _ _ _ (omega (arith, x));
-        }
+        passing k (ih (sym (judged-fault grid c k i q t s) ∙ e)) (omega (arith, switches-fault grid c k i q t s))
 comes-in grid c k (enters i) l h e =
     by-bool (faulty grid (position-of (i .node))) (λ z. not-entered 17 c l (sym (judged-faulty grid c k i z) ∙ e))
     (λ z. record {

@@ -124,31 +124,17 @@ level north = false
 level east = true
 level west = true
 
-level-moves : (d : Dir) → T (level d) → T (moving d)
-level-moves still t = t
-level-moves south t = tt
-level-moves north t = tt
-level-moves east t = tt
-level-moves west t = tt
-
-turned-moves : (d : Dir) → T (level (tr d)) → T (moving d)
-turned-moves still t = t
-turned-moves south t = tt
-turned-moves north t = tt
-turned-moves east t = tt
-turned-moves west t = tt
-
-level-joins : (d : Dir) → T (level d) → (joins-of d W ≡ some E) × (joins-of d E ≡ some W)
+level-joins : (d : Dir) → T (level d) → T (moving d) × (joins-of d W ≡ some E) × (joins-of d E ≡ some W)
 level-joins still t = absurd t
 level-joins south t = absurd t
 level-joins north t = absurd t
-level-joins east t = (refl, refl)
-level-joins west t = (refl, refl)
+level-joins east t = (tt, refl, refl)
+level-joins west t = (tt, refl, refl)
 
-turned-joins : (d : Dir) → T (level (tr d)) → (joins-of d N ≡ some S) × (joins-of d S ≡ some N)
+turned-joins : (d : Dir) → T (level (tr d)) → T (moving d) × (joins-of d N ≡ some S) × (joins-of d S ≡ some N)
 turned-joins still t = absurd t
-turned-joins south t = (refl, refl)
-turned-joins north t = (refl, refl)
+turned-joins south t = (tt, refl, refl)
+turned-joins north t = (tt, refl, refl)
 turned-joins east t = absurd t
 turned-joins west t = absurd t
 
@@ -290,8 +276,8 @@ module _ (w : Wafer) (r : Routed w) where
         east-up = λ x y p t. rw (← add-one y) (and-true (processor-at (w .rows) (w .columns) x y) _ (across-there x y p t) .1);
         joins = λ x y p q e. across-inside x y p q (across-there x y p (ap there e)) e;
         end-in = λ x y p e. healthy-ends x y p (ends-when (view-of w .path x y) (faulty (w .grid) (position x y)) e);
-        run-W = λ x y e. run x y W E e (λ d t. level-joins d t .0);
-        run-E = λ x y e. run x y E W e (λ d t. level-joins d t .1);
+        run-W = λ x y e. run x y W E e (λ d t. level-joins d t .1);
+        run-E = λ x y e. run x y E W e (λ d t. level-joins d t .2);
       }
     where
       run : (x y : ℕ) (s q : Compass) → inside (view-of w) x y ≡ runs → ((d : Dir) → T (level d) → joins-of d s ≡ some q)
@@ -299,7 +285,7 @@ module _ (w : Wafer) (r : Routed w) where
       run x y s q e f =
           let d = view-of w .path x y in
           let a = runs-when d (faulty (w .grid) (position x y)) e in
-          fault-inside x y d s q (level-moves d (a .1)) (a .0) refl (f d (a .1))
+          fault-inside x y d s q (level-joins d (a .1) .0) (a .0) refl (f d (a .1))
 
   pub along-columns : Alike w down-turned processor-turned turned (across (transposed (view-of w))) (inside (transposed (view-of w)))
   unfolding stands
@@ -310,8 +296,8 @@ module _ (w : Wafer) (r : Routed w) where
         east-up = λ x y p t. rw (← add-one y) (and-true (processor-at (w .rows) (w .columns) y x) _ (down-there x y p t) .1);
         joins = λ x y p q e. down-inside x y p q (down-there x y p (ap there e)) e;
         end-in = λ x y p e. healthy-ends y x p (ends-when (tr (view-of w .path y x)) (faulty (w .grid) (position y x)) e);
-        run-W = λ x y e. run x y N S e (λ d t. turned-joins d t .0);
-        run-E = λ x y e. run x y S N e (λ d t. turned-joins d t .1);
+        run-W = λ x y e. run x y N S e (λ d t. turned-joins d t .1);
+        run-E = λ x y e. run x y S N e (λ d t. turned-joins d t .2);
       }
     where
       run : (x y : ℕ) (s q : Compass) → inside (transposed (view-of w)) x y ≡ runs → ((d : Dir) → T (level (tr d)) → joins-of d s ≡ some q)
@@ -319,4 +305,4 @@ module _ (w : Wafer) (r : Routed w) where
       run x y s q e f =
           let d = view-of w .path y x in
           let a = runs-when (tr d) (faulty (w .grid) (position y x)) e in
-          fault-inside y x d s q (turned-moves d (a .1)) (a .0) refl (f d (a .1))
+          fault-inside y x d s q (turned-joins d (a .1) .0) (a .0) refl (f d (a .1))
