@@ -65,19 +65,18 @@ listing {n} {m} {grid} {old} {new} {count} g c e =
 pub hit-inner-fault : (n m : ℕ) (grid : List ℕ) (p : ℕ) → Hit (inner-faulty n m) grid p → inner-fault n m grid p ≡ true
 hit-inner-fault n m grid p x = ap (inner-faulty n m p) (mark-read grid p (x .below)) ∙ x .passes
 
-module _ (n m : ℕ) (grid directions : List ℕ) (t : Directed n m grid directions) where
-  pub fault-below : (k : ℕ) → k < length (faults n m grid) → getD (faults n m grid) k 0 < 1024
-  fault-below k h =
-      let x = fault-hit n m grid k h in
-      omega (arith, x .below, t .sound .grid-long)
+pub fault-below : (n m : ℕ) (grid : List ℕ) → length grid ≡ 1024 → (k : ℕ) → k < length (faults n m grid)
+    → getD (faults n m grid) k 0 < 1024
+fault-below n m grid e k h = omega (arith, fault-hit n m grid k h .below)
 
+module _ (n m : ℕ) (grid directions : List ℕ) (t : Directed n m grid directions) where
   fault-start : (k : ℕ) → k < length (faults n m grid)
       → Start n m (getD (faults n m grid) k 0) (getD directions (getD (faults n m grid) k 0) 0)
   fault-start k h =
       let p = getD (faults n m grid) k 0 in
       let d = getD directions p 0 in
       let x = fault-hit n m grid k h in
-      let l : p < length directions = omega (arith, fault-below k h, t .sound .directions-long) in
+      let l : p < length directions = omega (arith, fault-below n m grid (t .sound .grid-long) k h, t .sound .directions-long) in
       let f = hit-inner-fault n m grid p x in
       let w = accepted-false (wrong-direction (inner-fault n m grid p) d) 4 p 0
       (scan-each (buffer-scan (direction-test n m grid) directions) (t .right) p l) in

@@ -15,7 +15,7 @@ use Rattle.array.specs.Map.{inner-fault}
 use Rattle.array.proofs.Fills.{tabulate-at, tabulate-length}
 use Rattle.plans.specs.Faults.{faults, directions-at, paired}
 use Rattle.plans.proofs.Pairing.{directions-length, direction-at}
-use Rattle.plans.proofs.Facts.{fault-hit}
+use Rattle.plans.proofs.Facts.{fault-below}
 use Rattle.plans.proofs.ByPosition.{faults-list}
 use Rattle.trials.specs.Search.{direction-of}
 
@@ -45,9 +45,6 @@ module _ (n m : ℕ) (grid xs : List ℕ) (long : length grid ≡ 1024) (one-eac
   abbrev held : List ℕ
   held = buffer (direction-of (paired (faults n m grid) xs))
 
-  start-below : (k : ℕ) → k < length (faults n m grid) → getD (faults n m grid) k 0 < 1024
-  start-below k h = omega (arith, fault-hit n m grid k h .below)
-
   -- read at the faults, the buffer gives the plan again
   pub paths-again : directions-at held (faults n m grid) ≡ xs
   paths-again =
@@ -55,7 +52,7 @@ module _ (n m : ℕ) (grid xs : List ℕ) (long : length grid ≡ 1024) (one-eac
       (λ k h.
       let l : k < length (faults n m grid) = omega (arith, h, directions-length held (faults n m grid)) in
       direction-at held (faults n m grid) k l
-      ∙ tabulate-at (direction-of (paired (faults n m grid) xs)) 1024 (getD (faults n m grid) k 0) 0 (start-below k l)
+      ∙ tabulate-at (direction-of (paired (faults n m grid) xs)) 1024 (getD (faults n m grid) k 0) 0 (fault-below n m grid long k l)
       ∙ direction-there (faults n m grid) xs k one-each (faults-list n m grid .once) l)
 
   pub zero-elsewhere : (p : ℕ) → p < 1024 → inner-fault n m grid p ≡ false → getD held p 0 ≡ 0
