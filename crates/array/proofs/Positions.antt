@@ -7,20 +7,8 @@ use Prim.Native.Nat.{ℕ, zero, suc, _+_, _<_}
 use native.Mathlib.Omega.{arith}
 use native.Mathlib.Nat.{le-of-suc-le-suc, not-suc-le-zero, add-zero, add-suc, suc-add}
 use lib.ListN.{length, getD}
-use Rattle.array.specs.Buffer.{positions-along, positions-in, Ascending}
+use Rattle.array.specs.Buffer.{positions-along, positions-in, Ascending, Index}
 use Rattle.array.proofs.Filters.{passes-at, hit-along}
-
--- where a number stands in a list
-pub record Index (l : List ℕ) (p : ℕ) : Type 0 where
-  pub k : ℕ
-  pub below : k < length l
-  pub is : getD l k 0 ≡ p
-
--- a list has the positions that pass a test, each once
-pub record Lists (test : ℕ → Bool) (ps : List ℕ) : Type 0 where
-  pub each : (k : ℕ) → k < length ps → test (getD ps k 0) ≡ true
-  pub all : (p : ℕ) → test p ≡ true → Index ps p
-  pub once : (i j : ℕ) → i < j → j < length ps → getD ps i 0 ≡ getD ps j 0 → ⊥
 
 module _ (t : ℕ → ℕ → Bool) where
   after : (i p : ℕ) (q : Bool) (r : List ℕ) → Index r p → Index (cond q (i ∷ r) r) p

@@ -1,6 +1,7 @@
 -- Document 01, "The array": buffers of 1,024 elements indexed by position, as lists.
 -- Assumes nothing.
 use Prim.Native.Nat.{ℕ, zero, suc, _<_}
+use mathlib.Core.Path.{_≡_}
 use mathlib.Core.Bool.{Bool, true, cond, _&&_}
 use mathlib.Core.List.{List, [], _∷_}
 use lib.Dec.{eqb}
@@ -39,6 +40,18 @@ positions-in t b = positions-along t 0 b
 -- each of these positions is below those after it
 abbrev pub Ascending : List ℕ → Type 0
 Ascending ps = (i j : ℕ) → i < j → j < length ps → getD ps i 0 < getD ps j 0
+
+-- where a number stands in a list
+pub record Index (l : List ℕ) (p : ℕ) : Type 0 where
+  pub k : ℕ
+  pub below : k < length l
+  pub is : getD l k 0 ≡ p
+
+-- a list has the positions that pass a test, each once
+pub record Lists (test : ℕ → Bool) (ps : List ℕ) : Type 0 where
+  pub each : (k : ℕ) → k < length ps → test (getD ps k 0) ≡ true
+  pub all : (p : ℕ) → test p ≡ true → Index ps p
+  pub once : (i j : ℕ) → i < j → j < length ps → getD ps i 0 ≡ getD ps j 0 → ⊥
 
 -- a buffer has exactly 1,024 elements
 abbrev pub long : List ℕ → Bool

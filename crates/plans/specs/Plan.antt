@@ -13,10 +13,14 @@ use Rattle.plans.specs.Faults.{faults}
 abbrev pub start-of : ℕ → ℕ → List ℕ → ℕ → ℕ
 start-of n m grid k = getD (faults n m grid) k 0
 
--- a choice: one direction, so one straight path, for each inner fault
-pub record Choice (n m : ℕ) (grid xs : List ℕ) : Type 0 where
-  pub one-each : length xs ≡ length (faults n m grid)
+-- one direction, so one straight path, for each of the faults at ps
+pub record Chosen (ps xs : List ℕ) : Type 0 where
+  pub one-each : length xs ≡ length ps
   pub straight : (k : ℕ) → k < length xs → (1 ≤ getD xs k 0) × (getD xs k 0 ≤ 4)
+
+-- a choice: for each inner fault
+abbrev pub Choice : ℕ → ℕ → List ℕ → List ℕ → Type 0
+Choice n m grid xs = Chosen (faults n m grid) xs
 
 -- a plan: one open path for every inner fault, with no meeting and no near-miss
 pub record Plan (n m : ℕ) (grid xs : List ℕ) : Type 0 where

@@ -11,7 +11,8 @@ use native.Mathlib.Omega.{arith}
 use lib.ListN.{length, getD}
 use Rattle.array.proofs.Bools.{and-true, and-both, by-bool}
 use Rattle.plans.specs.Faults.{fault}
-use Rattle.plans.specs.Plan.{Not-after}
+use Rattle.plans.specs.Plan.{Chosen, Not-after}
+use Rattle.plans.specs.PlanAt.{Plan-along}
 use Rattle.plans.specs.declared.Fault.{Fault}
 use Rattle.trials.specs.Trials.{Search, found, exhausted, in-order, trials, count, clear-of, keeps}
 use Rattle.trials.proofs.Laws.{In, Kept, Answers, answers}
@@ -50,11 +51,6 @@ and-split : (a b : Bool) → (a && b) ≡ false → (a ≡ false) ⊎ (b ≡ fal
 and-split true b e = inr e
 and-split false b e = inl refl
 
--- the faults at ps have the directions xs, one each
-pub record Chosen (ps xs : List ℕ) : Type 0 where
-  pub one-each : length xs ≡ length ps
-  pub straight : (k : ℕ) → k < length xs → Straight (getD xs k 0)
-
 chosen-none : Chosen [] []
 chosen-none = record { one-each = refl; straight = λ k h. absurd (not-suc-le-zero h) }
 
@@ -78,10 +74,8 @@ module _ (opens : ℕ → ℕ → Bool) (clear : ℕ → ℕ → ℕ → ℕ →
   Apart kept ps xs k = clear-of clear kept (getD ps k 0) (getD xs k 0)
 
   pub record Sound (kept : List Fault) (ps xs : List ℕ) : Type 0 where
-    pub chosen : Chosen ps xs
-    pub open-at : (k : ℕ) → k < length xs → Open ps xs k ≡ true
+    pub along : Plan-along opens clear ps xs
     pub apart-at : (k : ℕ) → k < length xs → Apart kept ps xs k ≡ true
-    pub clear-at : (i j : ℕ) → i < j → j < length xs → Clear ps xs i j ≡ true
 
   pub data Wrong (kept : List Fault) (ps xs : List ℕ) : Type 0 where
     shut : (k : ℕ) → k < length xs → Open ps xs k ≡ false → Wrong kept ps xs
@@ -92,10 +86,12 @@ module _ (opens : ℕ → ℕ → Bool) (clear : ℕ → ℕ → ℕ → ℕ →
   unfolding keeps clear-of
   kept-sound [] [] kept v =
       record {
-        chosen = chosen-none;
-        open-at = λ k h. absurd (not-suc-le-zero h);
+        along = record {
+          chosen = chosen-none;
+          open-path = λ k h. absurd (not-suc-le-zero h);
+          clear-pair = λ i j l h. absurd (not-suc-le-zero h);
+        };
         apart-at = λ k h. absurd (not-suc-le-zero h);
-        clear-at = λ i j l h. absurd (not-suc-le-zero h);
       }
   kept-sound [] (d ∷ xs) kept v = absurd v
   kept-sound (p ∷ ps) [] kept v = absurd v
@@ -105,27 +101,30 @@ module _ (opens : ℕ → ℕ → Bool) (clear : ℕ → ℕ → ℕ → ℕ →
       let later : (k : ℕ) → k < length xs → (Clear (p ∷ ps) (d ∷ xs) 0 (suc k) ≡ true) × (Apart kept ps xs k ≡ true)
       = λ k h. and-true (Clear (p ∷ ps) (d ∷ xs) 0 (suc k)) (Apart kept ps xs k) (s .apart-at k h) in
       record {
-        chosen = chosen-more p d ps xs (in-straight d (v .0)) (s .chosen);
-        open-at = each (λ k. Open (p ∷ ps) (d ∷ xs) k ≡ true) (e .0) (s .open-at);
+        along = record {
+          chosen = chosen-more p d ps xs (in-straight d (v .0)) (s .along .chosen);
+          open-path = each (λ k. Open (p ∷ ps) (d ∷ xs) k ≡ true) (e .0) (s .along .open-path);
+          clear-pair = pairs (λ i j. Clear (p ∷ ps) (d ∷ xs) i j ≡ true) (λ j h. later j h .0) (s .along .clear-pair);
+        };
         apart-at = each (λ k. Apart kept (p ∷ ps) (d ∷ xs) k ≡ true) (e .1) (λ k h. later k h .1);
-        clear-at =
-            pairs (λ i j. Clear (p ∷ ps) (d ∷ xs) i j ≡ true) (λ j h. later j h .0) (s .clear-at);
       }
 
   pub sound-kept : (ps xs : List ℕ) (kept : List Fault) → Sound kept ps xs → Kept (keeps opens clear) kept ps xs
   unfolding keeps clear-of
   sound-kept [] [] kept s = tt
-  sound-kept [] (d ∷ xs) kept s = absurd (omega (arith, s .chosen .one-each))
-  sound-kept (p ∷ ps) [] kept s = absurd (omega (arith, s .chosen .one-each))
+  sound-kept [] (d ∷ xs) kept s = absurd (omega (arith, s .along .chosen .one-each))
+  sound-kept (p ∷ ps) [] kept s = absurd (omega (arith, s .along .chosen .one-each))
   sound-kept (p ∷ ps) (d ∷ xs) kept s = (
-    straight-in d (s .chosen .straight 0 (omega arith)),
-    and-both _ _ (s .open-at 0 (omega arith)) (s .apart-at 0 (omega arith)),
+    straight-in d (s .along .chosen .straight 0 (omega arith)),
+    and-both _ _ (s .along .open-path 0 (omega arith)) (s .apart-at 0 (omega arith)),
     sound-kept ps xs (fault p d ∷ kept)
         (record {
-          chosen = chosen-less p d ps xs (s .chosen);
-          open-at = λ k h. s .open-at (suc k) (omega arith);
-          apart-at = λ k h. and-both _ _ (s .clear-at 0 (suc k) (omega arith) (omega arith)) (s .apart-at (suc k) (omega arith));
-          clear-at = λ i j l h. s .clear-at (suc i) (suc j) (omega arith) (omega arith);
+          along = record {
+            chosen = chosen-less p d ps xs (s .along .chosen);
+            open-path = λ k h. s .along .open-path (suc k) (omega arith);
+            clear-pair = λ i j l h. s .along .clear-pair (suc i) (suc j) (omega arith) (omega arith);
+          };
+          apart-at = λ k h. and-both _ _ (s .along .clear-pair 0 (suc k) (omega arith) (omega arith)) (s .apart-at (suc k) (omega arith));
         }),
   )
 

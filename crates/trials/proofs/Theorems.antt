@@ -8,12 +8,12 @@ use mathlib.Core.List.{List, []}
 use native.Mathlib.Numerals.{add-one}
 use lib.ListN.{length}
 use Rattle.paths.specs.Path.{is-open, clear}
-use Rattle.paths.proofs.Clashes.{clear-neither, neither-clear, clash-either}
+use Rattle.paths.proofs.Clashes.{clash-either}
 use Rattle.plans.specs.Faults.{faults, paired}
 use Rattle.plans.specs.Plan.{Plan, Blocked, not-open, meeting, near, Every-choice-blocked, First-plan}
 use Rattle.plans.specs.PlanAt.{Plan-on}
 use Rattle.plans.proofs.Planned.{plan-not-blocked}
-use Rattle.plans.proofs.ByPosition.{faults-list, plan-on, listed}
+use Rattle.plans.proofs.ByPosition.{faults-list, plan-along, along-plan, plan-on, listed}
 use Rattle.trials.specs.Trials.{Search, found, exhausted, trials, keeps, clear-of}
 use Rattle.trials.specs.Search.{direction-of, searched, planned, T}
 use Rattle.trials.specs.Theorems.{Trial-rule}
@@ -30,22 +30,7 @@ module _ (n m : ℕ) (grid : List ℕ) where
 
   plan-sound : (xs : List ℕ) → Plan n m grid xs → Sound-at xs
   unfolding clear-of
-  plan-sound xs h =
-      record {
-        chosen = record { one-each = h .one-path .one-each; straight = h .one-path .straight };
-        open-at = h .open-path;
-        apart-at = λ k l. refl;
-        clear-at = λ i j a b. neither-clear n m _ _ _ _ (h .no-meeting i j a b) (h .no-near-miss i j a b);
-      }
-
-  sound-plan : (xs : List ℕ) → Sound-at xs → Plan n m grid xs
-  sound-plan xs s =
-      record {
-        one-path = record { one-each = s .chosen .one-each; straight = s .chosen .straight };
-        open-path = s .open-at;
-        no-meeting = λ i j a b. clear-neither n m _ _ _ _ (s .clear-at i j a b) .0;
-        no-near-miss = λ i j a b. clear-neither n m _ _ _ _ (s .clear-at i j a b) .1;
-      }
+  plan-sound xs h = record { along = plan-along n m grid h; apart-at = λ k l. refl }
 
   wrong-blocked : (xs : List ℕ) → Wrong-at xs → Blocked n m grid xs
   unfolding clear-of
@@ -60,21 +45,20 @@ module _ (n m : ℕ) (grid : List ℕ) where
   unfolding planned searched
   first-of-plans k xs e =
       record {
-        is-plan = sound-plan xs (found-sound (is-open n m grid) (clear n m) [] fs k xs e);
+        is-plan = along-plan n m grid (found-sound (is-open n m grid) (clear n m) [] fs k xs e .along);
         none-before = λ ys p. found-first (is-open n m grid) (clear n m) [] fs k xs e ys (plan-sound ys p);
       }
 
   none-found : (k : ℕ) → planned n m grid ≡ exhausted k → Every-choice-blocked n m grid
   unfolding planned searched
   none-found k e xs h =
-      wrong-blocked xs
-      (exhausted-wrong (is-open n m grid) (clear n m) [] fs k e xs (record { one-each = h .one-each; straight = h .straight }))
+      wrong-blocked xs (exhausted-wrong (is-open n m grid) (clear n m) [] fs k e xs h)
 
   none-there : Every-choice-blocked n m grid → planned n m grid ≡ exhausted (T n m grid)
   unfolding T planned searched
   none-there b =
       unsound-exhausted (is-open n m grid) (clear n m) [] fs
-      (λ xs s. let p = sound-plan xs s in plan-not-blocked n m grid xs p (b xs (p .one-path)))
+      (λ xs s. let p = along-plan n m grid (s .along) in plan-not-blocked n m grid xs p (b xs (p .one-path)))
 
   -- the plan of a list of directions, said by position
   placed : (xs : List ℕ) → Plan n m grid xs → Plan-on n m grid (direction-of (paired fs xs))
