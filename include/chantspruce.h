@@ -31,10 +31,11 @@
  * inside; the others are the spares. Cell [i, j] belongs at row i, column j. The position of a row and a column is the number
  * 32 * row + column. Positions in ascending order are called row order.
  *
- * A (compensation) path runs straight from a faulty processor inside the array to the spare at the end of its row or column. Every cell on it
- * moves one processor along it. A plan gives each of these faults a path so that no path runs over another fault or ends on a faulty spare, no
- * two paths share a processor, and no two are a near-miss. A near-miss: a path south and a path north in adjacent columns where the one that
- * goes south starts above the other, or a path east and a path west in adjacent rows where the one that goes east starts left of the other.
+ * A path (a compensation path, in the paper of Kung, Jean and Chang) runs straight from a faulty processor inside the array to the spare at
+ * the end of its row or column. Every cell on it moves one processor along it. A plan gives each of these faults a path so that no path runs
+ * over another fault or ends on a faulty spare, no two paths share a processor, and no two are a near-miss. A near-miss: a path south and a
+ * path north in adjacent columns where the one that goes south starts above the other, or a path east and a path west in adjacent rows where
+ * the one that goes east starts left of the other.
  *
  *
  * BUFFERS

@@ -11,7 +11,10 @@ use Rattle.lists.specs.FaultList.{listed-test, check-fault-list}
 use Rattle.lists.specs.ListExamples.{List-examples}
 
 pub list-examples : List-examples
-unfolding span path share member meet near-miss clash pair-test faulty-mark none-faulty is-open first-of first-along positions-along map-tests faults pairs-test paths-test listed-test check-fault-list
+unfolding
+    first-of first-along span positions-along faulty-mark map-tests
+    path none-faulty is-open member share meet near-miss clash pair-test
+    faults pairs-test paths-test listed-test check-fault-list
 list-examples =
     record {
       south-east = refl;
