@@ -1,4 +1,4 @@
-// Output, written to standard output piece by piece: a buffer lent through all calls would double the time of the check.
+// Output, written to standard output piece by piece.
 use libc::STDOUT_FILENO;
 
 // Bytes as they stand.

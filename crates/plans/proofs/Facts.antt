@@ -12,7 +12,7 @@ use lib.Seq.{take-at, drop-at}
 use Rattle.array.specs.Place.{inner}
 use Rattle.array.specs.Buffer.{Ascending}
 use Rattle.array.specs.Map.{inner-faulty, inner-fault}
-use Rattle.array.proofs.Bools.{and-true, or-false}
+use Rattle.array.proofs.Bools.{and-true, or-false, by-lt}
 use Rattle.array.proofs.Verdicts.{accepted-false}
 use Rattle.array.proofs.Scans.{buffer-scan, scan-each}
 use Rattle.array.proofs.Filters.{Hit, position-at, positions-short}
@@ -23,6 +23,12 @@ use Rattle.plans.specs.Faults.{faults, directions-at}
 use Rattle.plans.specs.Check.{wrong-direction, direction-test}
 use Rattle.plans.specs.Inner.{Listed, Starts, Directed}
 use Rattle.plans.proofs.Pairing.{directions-length, direction-at}
+
+-- no position stands twice in an ascending list
+pub ascending-distinct : (ps : List ℕ) → Ascending ps → (i j : ℕ) → (i ≡ j → ⊥) → i < length ps → j < length ps
+    → getD ps i 0 ≡ getD ps j 0 → ⊥
+ascending-distinct ps up i j ne h l e =
+    by-lt i j (λ a. omega (arith, up i j a l)) (λ a. omega (arith, up j i (omega arith) h))
 
 -- a direction that is not wrong at a fault
 right-at-fault : (fault : Bool) (d : ℕ) → fault ≡ true → wrong-direction fault d ≡ false → (1 ≤ d) × (d ≤ 4)

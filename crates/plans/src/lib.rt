@@ -111,9 +111,9 @@ fn check_opens(n: usize, m: usize, grid: &[u8], starts: &[u16], ds: &[u8]) -> Ve
     Verdict::Accepted
 }
 
-// Tests 6 and 7 of the i-th fault and of the j-th, which comes later.
+// Tests 6 and 7 of the i-th fault and of the j-th, another one.
 fn check_pair_at(n: usize, m: usize, starts: &[u16], ds: &[u8], i: usize, j: usize) -> Verdict
-    requires { ⌜ Starts n m (now starts) (now ds) × (i < j) × (j < length (now starts)) ⌝ }
+    requires { ⌜ Starts n m (now starts) (now ds) × (i ≡ j → ⊥) × (i < length (now starts)) × (j < length (now starts)) ⌝ }
     ensures { λ r. ⌜ r ≡ clash-test n m (fault (getD (now (starts .entry)) i 0) (getD (now (ds .entry)) i 0)) (fault (getD (now (starts .entry)) j 0) (getD (now (ds .entry)) j 0)) ⌝ }
 {
     paths::check_pair(n, m, wide(starts[i]), ds[i], wide(starts[j]), ds[j])

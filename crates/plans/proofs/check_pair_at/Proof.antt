@@ -1,6 +1,7 @@
 -- `plans::check_pair_at` meets its contract.
 -- Assumes nothing.
-use native.Mathlib.Omega.{arith}
+use denote.Ref.{now}
+use Rattle.plans.proofs.Facts.{ascending-distinct}
 use borrow.Author.Needs.{needs}
 use Rattle.plans.proofs.check_pair_at.Statement.{statement}
 use Rattle.plans.proofs.check_pair_at.Tie as tie
@@ -35,9 +36,10 @@ check-pair-requires c κs =
     let w = v .before .before .before in
     let s = w .before .before .before .before in
     let a = s .args in (
-      rw (w .wide .ensures) (s .pre .0 .each (a .i) (omega (arith, s .pre .1, s .pre .2))),
-      rw (v .wide2 .ensures) (s .pre .0 .each (a .j) (s .pre .2)),
-      rw (w .wide .ensures, v .wide2 .ensures) (λ e. omega (arith, e, s .pre .0 .ascend (a .i) (a .j) (s .pre .1) (s .pre .2))),
+      rw (w .wide .ensures) (s .pre .0 .each (a .i) (s .pre .2)),
+      rw (v .wide2 .ensures) (s .pre .0 .each (a .j) (s .pre .3)),
+      rw (w .wide .ensures, v .wide2 .ensures)
+          (ascending-distinct (now (a .starts)) (s .pre .0 .ascend) (a .i) (a .j) (s .pre .1) (s .pre .2) (s .pre .3)),
     )
 
 returns : tie.Need-returns

@@ -58,7 +58,7 @@ check-pair-at-requires : tie.Need-check-pair-at-requires Inv-loop μ-loop Inv-pa
 check-pair-at-requires c κs =
     let l = c .before in
     let o = l .before .before in
-    (o .before .before .before .pre, l .loop .inv .2, omega arith)
+    (o .before .before .before .pre, λ e. omega (arith, e, l .loop .inv .2), omega arith, omega arith)
 
 enum-told : tie.Need-enum-told Inv-loop μ-loop Inv-pairs μ-pairs
 enum-told c = search needs
