@@ -1,7 +1,7 @@
 -- A walk along a path after its start, as the openness loop makes it.
 -- Assumes nothing.
 use mathlib.Core.Path.{_≡_, sym, ap, _∙_}
-use mathlib.Core.Bool.{Bool, true, false, not, _&&_}
+use mathlib.Core.Bool.{Bool, true, not, _&&_}
 use mathlib.Core.List.{List}
 use Prim.Native.Nat.{ℕ, suc, _+_, _-_, _<_, _≤_}
 use native.Mathlib.Numerals.{add-one}
@@ -50,16 +50,9 @@ module _ (n m : ℕ) (grid : List ℕ) (p d : ℕ) where
 
   -- the k-th processor, which stands at q in the buffer, is faulty or not
   module _ (k q : ℕ) (l : k < path-length n m p d) (e : q ≡ ahead p d k) (h : q < length grid) where
-    turn-by : {r b : Bool} → r ≡ faulty-mark (getD grid q 0) → r ≡ b
+    pub open-by-mark : {r b : Bool} → r ≡ faulty-mark (getD grid q 0) → r ≡ b
         → open-from n m grid p d k ≡ (not b && open-from n m grid p d (k + 1))
-    turn-by f t =
+    open-by-mark f t =
         open-turn k l
         ∙ ap (λ (z : Bool). not z && open-from n m grid p d (k + 1))
         (ap (faulty grid) (sym e) ∙ faulty-read grid q h ∙ sym f ∙ t)
-
-    pub open-stops : {r : Bool} → r ≡ faulty-mark (getD grid q 0) → r ≡ true → open-from n m grid p d k ≡ false
-    open-stops f t = turn-by f t
-
-    pub open-passes : {r : Bool} → r ≡ faulty-mark (getD grid q 0) → r ≡ false
-        → open-from n m grid p d k ≡ open-from n m grid p d (k + 1)
-    open-passes f t = turn-by f t

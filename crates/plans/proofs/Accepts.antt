@@ -10,20 +10,19 @@ use lib.Dec.{eqb, ltb}
 use lib.ListN.{length, getD}
 use Rattle.array.specs.Tests.{or-else}
 use Rattle.array.specs.Buffer.{long}
-use Rattle.array.specs.Map.{map-tests, well-formed, inner-faulty, inner-fault}
+use Rattle.array.specs.Map.{map-tests, well-formed, inner-fault}
 use Rattle.array.specs.declared.Verdict.the-variants.{Accepted}
 use Rattle.array.proofs.Bools.{and-true, or-false, by-bool}
 use Rattle.array.proofs.Verdicts.{both-accepted, accept-both, accepted-false, false-accepted}
 use Rattle.array.proofs.Scans.{buffer-scan, scan-each, scan-all}
 use Rattle.array.proofs.Maps.{map-accepted}
 use Rattle.array.proofs.Formed.{Formed, formed, formed-lent, grid-and}
-use Rattle.array.proofs.Positions.{position-index}
-use Rattle.array.proofs.Marks.{mark-read}
 use Rattle.plans.specs.Faults.{faults, directions-at, paired, directed-faults}
 use Rattle.plans.specs.Plan.{Choice, Plan}
 use Rattle.plans.specs.Check.{wrong-direction, direction-test, directions-test, paths-test, plan-tests, check-plan, Holds-plan, Accepts-plans}
 use Rattle.plans.specs.Inner.{Starts, Sound}
-use Rattle.plans.proofs.Pairing.{directions-length, direction-at}
+use Rattle.plans.proofs.Pairing.{directions-length}
+use Rattle.plans.proofs.ByPosition.{buffer-plan}
 use Rattle.plans.proofs.Facts.{fault-starts}
 use Rattle.plans.proofs.Planned.{paths-plan, plan-paths}
 
@@ -81,20 +80,16 @@ module _ (n m : ℕ) (grid directions : List ℕ) (accepted-map : well-formed n 
 
   -- from the plan to the check
   module _ (plan : Plan n m grid ds) (elsewhere : (p : ℕ) → p < 1024 → inner-fault n m grid p ≡ false → getD directions p 0 ≡ 0) where
-    at-fault : (p : ℕ) → p < length grid → inner-fault n m grid p ≡ true → wrong-direction true (getD directions p 0) ≡ false
-    unfolding faults
-    at-fault p h f =
-        let x = position-index (inner-faulty n m) grid p h (sym (ap (inner-faulty n m p) (mark-read grid p h)) ∙ f) in
-        let e : getD ds (x .k) 0 ≡ getD directions p 0 =
-        direction-at directions starts (x .k) (x .below) ∙ ap (λ (q : ℕ). getD directions q 0) (x .is) in
-        let s = plan .one-path .straight (x .k) (omega (arith, x .below, same)) in
-        straight-right (getD directions p 0) (omega (arith, e, s .0)) (omega (arith, e, s .1))
+    at-fault : (p : ℕ) → inner-fault n m grid p ≡ true → wrong-direction true (getD directions p 0) ≡ false
+    at-fault p f =
+        let s = buffer-plan n m grid directions .0 plan .straight p f in
+        straight-right (getD directions p 0) (s .0) (s .1)
 
     direction-right : (p : ℕ) → p < length directions → direction-test n m grid p (getD directions p 0) ≡ Accepted
     direction-right p h =
         by-bool (inner-fault n m grid p)
         (λ f.
-        let e : wrong-direction (inner-fault n m grid p) (getD directions p 0) ≡ false = rw f (at-fault p (omega (arith, map .length-is)) f) in
+        let e : wrong-direction (inner-fault n m grid p) (getD directions p 0) ≡ false = rw f (at-fault p f) in
         false-accepted 4 p 0 e)
         (λ f.
         let e : wrong-direction (inner-fault n m grid p) (getD directions p 0) ≡ false = rw (f, elsewhere p (omega arith) f) in

@@ -16,7 +16,7 @@ use Rattle.array.proofs.Bools.{and-true, or-false, by-lt}
 use Rattle.array.proofs.Verdicts.{accepted-false}
 use Rattle.array.proofs.Scans.{buffer-scan, scan-each}
 use Rattle.array.proofs.Filters.{Hit, position-at, positions-short}
-use Rattle.array.proofs.Marks.{mark-read}
+use Rattle.array.proofs.Marks.{inner-fault-read}
 use Rattle.array.proofs.Positions.{positions-rise}
 use Rattle.paths.specs.Path.{Start}
 use Rattle.plans.specs.Faults.{faults, directions-at}
@@ -69,7 +69,7 @@ listing {n} {m} {grid} {old} {new} {count} g c e =
     }
 
 pub hit-inner-fault : (n m : ℕ) (grid : List ℕ) (p : ℕ) → Hit (inner-faulty n m) grid p → inner-fault n m grid p ≡ true
-hit-inner-fault n m grid p x = ap (inner-faulty n m p) (mark-read grid p (x .below)) ∙ x .passes
+hit-inner-fault n m grid p x = inner-fault-read n m grid p (x .below) ∙ x .passes
 
 pub fault-below : (n m : ℕ) (grid : List ℕ) → length grid ≡ 1024 → (k : ℕ) → k < length (faults n m grid)
     → getD (faults n m grid) k 0 < 1024

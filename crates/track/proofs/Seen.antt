@@ -201,7 +201,8 @@ module _ (n m : ℕ) (grid directions : List ℕ) (f : Formed n m grid) (pl : Pl
       let g = seen (w .dir fx fy) fx fy (on-moving w (w .dir fx fy) fx fy x y c) refl in
       let p = position fx fy in
       let l = on-column (w .dir fx fy) fx fy x y (g .within) c in
-      let e = open-alone n m p (d-at p) (position x y) grid (way-of p (g .fault)) (pl .open-path p (g .fault)) (seen-member (w .dir fx fy) fx fy x y g c) (true-if _ b) in
+      let on-it = seen-member (w .dir fx fy) fx fy x y g c in
+      let e = open-alone n m p (d-at p) (position x y) grid (way-of p (g .fault)) (pl .open-path p (g .fault)) on-it (true-if _ b) in
       (omega (arith, e, g .within), omega (arith, e, g .within))
 
   no-near-miss : (fx fy gx gy : ℕ) → w .dir fx fy ≡ south → w .dir gx gy ≡ north → difference fy gy ≡ 1 → fx < gx → ⊥

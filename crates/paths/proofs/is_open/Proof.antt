@@ -6,7 +6,7 @@ use native.Mathlib.Omega.{arith}
 use borrow.Author.Needs.{needs}
 use Rattle.paths.specs.Path.{path-length, is-open}
 use Rattle.paths.proofs.Ways.{start-way, start-inner}
-use Rattle.paths.proofs.Walking.{path-long, open-from, open-start, open-end, open-stops, open-passes}
+use Rattle.paths.proofs.Walking.{path-long, open-from, open-start, open-end, open-by-mark}
 use Rattle.paths.proofs.is_open.Statement.{statement}
 use Rattle.paths.proofs.is_open.Tie as tie
 
@@ -48,7 +48,7 @@ returns c =
     let a = l .before .before .before .args in
     let r = c .before .before .before .step-ahead in
     sym (l .loop .inv .1
-    ∙ open-stops (a .n) (a .m) (a .grid .now) (a .p) (a .d) (l .loop .k) (r .result) (omega arith) (r .ensures .0) (omega (arith, r .ensures .1))
+    ∙ open-by-mark (a .n) (a .m) (a .grid .now) (a .p) (a .d) (l .loop .k) (r .result) (omega arith) (r .ensures .0) (omega (arith, r .ensures .1))
     (c .before .is-faulty .ensures) (c .if1 .taken))
 
 add-k : tie.Need-add-k Inv-loop μ-loop
@@ -64,7 +64,7 @@ loop-again c =
     let r = c .before .before .before .step-ahead in (
       omega arith,
       l .loop .inv .1
-          ∙ open-passes (a .n) (a .m) (a .grid .now) (a .p) (a .d) (l .loop .k) (r .result) (omega arith) (r .ensures .0) (omega (arith, r .ensures .1))
+          ∙ open-by-mark (a .n) (a .m) (a .grid .now) (a .p) (a .d) (l .loop .k) (r .result) (omega arith) (r .ensures .0) (omega (arith, r .ensures .1))
           (c .before .is-faulty .ensures) (c .if1 .left),
     )
 

@@ -36,7 +36,8 @@ take-directions-requires c κs =
       s .pre .2,
       λ k h.
           let l : k < length (found s) = omega (arith, h, ap length (s .pre .1)) in
-          omega (arith, fault-below (a .n) (a .m) (now (a .grid)) (s .pre .0 .sound .grid-long) k l, s .pre .0 .sound .directions-long, ap (λ (x : List ℕ). getD x k 0) (s .pre .1)),
+          let low = fault-below (a .n) (a .m) (now (a .grid)) (s .pre .0 .sound .grid-long) k l in
+          omega (arith, low, s .pre .0 .sound .directions-long, ap (λ (x : List ℕ). getD x k 0) (s .pre .1)),
     )
 
 paint-paths-requires : tie.Need-paint-paths-requires
