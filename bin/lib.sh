@@ -76,6 +76,7 @@ meaning() {
         16) echo "$here: a switch letter that cannot stand there" ;;
         17) echo "$here: the track ends there" ;;
         18) echo "$here: the link would enter a fourth switch there" ;;
+        19) echo "byte $2: a place is out of row order (from the top row down, each row from the left)" ;;
         *) echo "place $2: a reason that this script does not know" ;;
     esac
 }

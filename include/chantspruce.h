@@ -66,15 +66,16 @@
  * FILES
  *
  * A number below 128 is one byte. One from 128 to 16,383 is two bytes: 128 + its low seven bits, then the other bits, which are not 0.
- * A map file: N, M, the number of faults, spares among them, then for each fault its row and its column. Their order is free.
+ * A map file: N, M, the number of faults, spares among them, then for each fault its row and its column.
  * A plan file: N, M, the number of paths, then for each path the row and the column of its start and its direction (1 to 4).
- * What the library writes is in row order.
+ * Faults and paths are in row order. Each map and each plan has one file: what the library reads without a refusal is byte for byte what it
+ * writes of it again.
  *
  *
  * RESULTS
  *
  * Each result begins with `number`, `place` and `second`. An accepted call has number CHANTSPRUCE_ACCEPTED, which is 0, and 0 in both places;
- * its values follow. A refused call has one of the numbers 1 to 18 below and 0 in every value, and has written to no buffer. Tests are
+ * its values follow. A refused call has one of the numbers 1 to 19 below and 0 in every value, and has written to no buffer. Tests are
  * made in a fixed order, which each function states, and the first that fails is returned.
  *
  *
@@ -211,7 +212,9 @@ enum {
        entered, or the processor of the cell where it entered none. */
     CHANTSPRUCE_TRACK_ENDS = 17,
     /* The link would enter a fourth switch. Place: that switch. */
-    CHANTSPRUCE_FOURTH_SWITCH = 18
+    CHANTSPRUCE_FOURTH_SWITCH = 18,
+    /* A record of a file has a lower position than the record before it. Place: the offset of the record's row. */
+    CHANTSPRUCE_WRONG_ORDER = 19
 };
 
 /* A FAULT OF A LIST */
@@ -351,12 +354,14 @@ chantspruce_verdict chantspruce_check_fault_list(size_t rows, size_t columns,
 chantspruce_number chantspruce_read_number(const uint8_t *file, size_t file_length, size_t at);
 
 /* Reads a map file and writes its grid.
- * Refuses 2, then what comes first in the file: 1 at N and M, 8 and 9 at every number, 10 and 11 at each record; 12 at the end. */
+ * Refuses 2, then what comes first in the file: 1 at N and M, 8 and 9 at every number; 10, 11, 19 in this order at each record, when all its
+ * numbers are read; 12 at the end. */
 chantspruce_head chantspruce_read_map(const uint8_t *file, size_t file_length,
                                       uint8_t *grid, size_t grid_length);
 
 /* Reads a plan file and writes its directions. Only chantspruce_check_plan tells whether they are a plan for a grid.
- * Refuses 2, then what comes first in the file: 1 at N and M, 8 and 9 at every number, 10, 11 and 13 at each record; 12 at the end. */
+ * Refuses 2, then what comes first in the file: 1 at N and M, 8 and 9 at every number; 10, 11, 13, 19 in this order at each record, when all
+ * its numbers are read; 12 at the end. */
 chantspruce_head chantspruce_read_plan(const uint8_t *file, size_t file_length,
                                        uint8_t *directions, size_t directions_length);
 

@@ -111,12 +111,14 @@ pub enum Reason {
     TrackEnds = 17,
     /// The link leads to a fourth switch.
     FourthSwitch = 18,
+    /// A record of a file has a lower position than the record before it.
+    RecordOrder = 19,
     /// An answer that the interface does not have. The library gives none.
     Unknown = 0,
 }
 
 /// The reasons in the order of their numbers, which begin with 1.
-const REASONS: [Reason; 18] = [
+const REASONS: [Reason; 19] = [
     Reason::Size,
     Reason::BufferLength,
     Reason::Mark,
@@ -135,6 +137,7 @@ const REASONS: [Reason; 18] = [
     Reason::SwitchByte,
     Reason::TrackEnds,
     Reason::FourthSwitch,
+    Reason::RecordOrder,
 ];
 
 impl Reason {
@@ -143,7 +146,7 @@ impl Reason {
         REASONS.get(index).copied().unwrap_or(Reason::Unknown)
     }
 
-    /// The number of the refusal, 1 to 18; 0 for [`Reason::Unknown`].
+    /// The number of the refusal, 1 to 19; 0 for [`Reason::Unknown`].
     pub fn number(self) -> u32 {
         self as u32
     }
@@ -311,12 +314,12 @@ pub fn read_number(file: &[u8], at: usize) -> Result<Number, Refusal> {
     flat::read_number(file, at).answer()
 }
 
-/// Reads a map file and fills `grid`. Refusals: 1, 2 and 8 to 12.
+/// Reads a map file and fills `grid`. Refusals: 1, 2, 8 to 12 and 19.
 pub fn read_map(file: &[u8], grid: &mut [u8]) -> Result<Head, Refusal> {
     flat::read_map(file, grid).answer()
 }
 
-/// Reads a plan file and fills `directions`. Refusals: 1, 2 and 8 to 13.
+/// Reads a plan file and fills `directions`. Refusals: 1, 2, 8 to 13 and 19.
 pub fn read_plan(file: &[u8], directions: &mut [u8]) -> Result<Head, Refusal> {
     flat::read_plan(file, directions).answer()
 }

@@ -15,6 +15,7 @@ static uint8_t out[CHANTSPRUCE_LISTING_ROOM];
 static const uint8_t map_file[] = {2, 2, 1, 1, 1};
 static const uint8_t plan_file[] = {2, 2, 1, 1, 1, CHANTSPRUCE_SOUTH};
 static const uint8_t wrong_plan_file[] = {2, 2, 1, 1, 1, 5};
+static const uint8_t unordered_plan_file[] = {2, 2, 2, 2, 1, CHANTSPRUCE_SOUTH, 1, 1, CHANTSPRUCE_NORTH};
 
 static void print_first(const char *call, uint32_t number, size_t place, size_t second)
 {
@@ -58,6 +59,7 @@ static void call_readers(void)
     print_head("read_map", chantspruce_read_map(map_file, sizeof map_file, grid, B));
     print_head("read_plan", chantspruce_read_plan(plan_file, sizeof plan_file, directions, B));
     print_head("read_plan", chantspruce_read_plan(wrong_plan_file, sizeof wrong_plan_file, directions, B));
+    print_head("read_plan", chantspruce_read_plan(unordered_plan_file, sizeof unordered_plan_file, directions, B));
 }
 
 static void call_writers(void)

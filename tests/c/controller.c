@@ -42,6 +42,7 @@ static const char *reason(uint32_t number)
         "a wrong letter of a switch",
         "the track ends",
         "a fourth switch",
+        "a record is out of row order",
     };
     return number < sizeof reasons / sizeof reasons[0] ? reasons[number] : "an unknown number";
 }

@@ -14,10 +14,10 @@ const EXAMPLES: [Example; 10] = [
     Example(2, 2, &[(1, 1), (1, 2), (2, 1), (2, 2)], LARGE, Outcome::Repaired(6), "NNSS"),
     Example(2, 2, &[(1, 1), (2, 2), (3, 2)], LARGE, Outcome::Repaired(4), "SE"),
     Example(2, 2, &[(1, 1), (1, 2), (3, 2)], LARGE, Outcome::Repaired(3), "SN"),
-    Example(2, 2, &[(1, 1), (2, 2), (0, 1), (1, 0), (1, 3), (2, 0), (2, 3), (3, 2)], LARGE, Outcome::Beyond(8), ""),
-    Example(1, 1, &[(1, 1), (2, 1), (0, 1), (1, 2)], LARGE, Outcome::Repaired(4), "W"),
-    Example(1, 1, &[(1, 1), (2, 1), (0, 1), (1, 2)], 3, Outcome::Spent(3), ""),
-    Example(1, 1, &[(1, 1), (2, 1), (0, 1), (1, 2), (1, 0)], LARGE, Outcome::Beyond(4), ""),
+    Example(2, 2, &[(0, 1), (1, 0), (1, 1), (1, 3), (2, 0), (2, 2), (2, 3), (3, 2)], LARGE, Outcome::Beyond(8), ""),
+    Example(1, 1, &[(0, 1), (1, 1), (1, 2), (2, 1)], LARGE, Outcome::Repaired(4), "W"),
+    Example(1, 1, &[(0, 1), (1, 1), (1, 2), (2, 1)], 3, Outcome::Spent(3), ""),
+    Example(1, 1, &[(0, 1), (1, 0), (1, 1), (1, 2), (2, 1)], LARGE, Outcome::Beyond(4), ""),
 ];
 
 const FIRST_LISTING: &str = "\
@@ -58,7 +58,10 @@ fn letters_hold() -> bool {
 fn refusals_hold() -> bool {
     let mut grid = [0; LENGTH];
     let mut told = |file: &[u8]| reference::read_map(file, &mut grid).map_err(|e| (e.number, e.place)).err();
-    told(&[0x82, 0]) == Some((9, 0)) && told(&[]) == Some((8, 0)) && told(&[31]) == Some((1, 0)) && told(&[30, 0]) == Some((1, 1))
+    let numbers =
+        told(&[0x82, 0]) == Some((9, 0)) && told(&[]) == Some((8, 0)) && told(&[31]) == Some((1, 0)) && told(&[30, 0]) == Some((1, 1));
+    let order = told(&[2, 2, 2, 2, 1, 1, 1]) == Some((19, 5)) && told(&[2, 2, 3, 1, 1, 2, 1, 1, 1]) == Some((11, 7));
+    numbers && order
 }
 
 /// What does not hold, if anything.

@@ -515,10 +515,10 @@ impl Maker {
         }
     }
 
-    /// A file of these records in any order, or a damaged one.
+    /// A file of these records, mostly in the order given, which is row order, or a damaged one.
     fn file<const K: usize>(&mut self, array: Array, mut records: Vec<[usize; K]>) -> Vec<u8> {
-        for i in (1..records.len()).rev() {
-            records.swap(i, self.below(i + 1));
+        if self.one_in(6) {
+            self.reorder(&mut records);
         }
         if self.one_in(4) {
             self.spoil_records(&mut records);
@@ -532,6 +532,22 @@ impl Maker {
         file
     }
 
+    /// Exchanges two neighbouring records, moves one anywhere, or takes all of them in any order.
+    fn reorder<const K: usize>(&mut self, records: &mut Vec<[usize; K]>) {
+        if records.is_empty() {
+            return;
+        }
+        let (from, to) = (self.below(records.len()), self.below(records.len()));
+        match self.below(4) {
+            0 | 1 => records.swap(from, from.saturating_sub(1)),
+            2 => {
+                let record = records.remove(from);
+                records.insert(to, record);
+            }
+            _ => (1..records.len()).rev().for_each(|i| records.swap(i, self.below(i + 1))),
+        }
+    }
+
     /// Repeats a record, or gives one a number that it should not have.
     fn spoil_records<const K: usize>(&mut self, records: &mut Vec<[usize; K]>) {
         if records.is_empty() {
@@ -540,7 +556,8 @@ impl Maker {
         let mut record = self.pick(records);
         if self.one_in(3) {
             record[K - 1] = 1 + self.below(4);
-            records.push(record);
+            let at = self.below(records.len()) + 1;
+            records.insert(at, record);
         } else {
             let wrong = [0, 1, 5, 29, 30, 31, 32, 33, 64, 127, 128, 16_383];
             record[self.below(K)] = self.pick(&wrong);

@@ -113,9 +113,19 @@ fn number_of(refusal: chantspruce::Refusal) -> u32 {
         Reason::SwitchByte => 16,
         Reason::TrackEnds => 17,
         Reason::FourthSwitch => 18,
+        Reason::RecordOrder => 19,
         Reason::Unknown => u32::MAX,
     };
     if refusal.number() == number { number } else { u32::MAX }
+}
+
+/// What was read of a file, where the writer makes the same bytes of it again; else values that no file has.
+fn head_said(head: chantspruce::Head, file: &[u8], write: impl Fn(&mut [u8]) -> Result<usize, chantspruce::Refusal>) -> [usize; 3] {
+    let mut out = [0; chantspruce::PLAN_ROOM];
+    match write(&mut out) {
+        Ok(length) if out[..length] == *file => [head.rows, head.columns, head.count],
+        _ => [usize::MAX; 3],
+    }
 }
 
 fn outcome_told(outcome: reference::Outcome, links: usize) -> [usize; 3] {
@@ -314,9 +324,13 @@ const READ_MAP: Operation = Operation {
     make: Maker::for_map_file,
     reference: |c| told(reference::read_map(&c.file, &mut c.grid), |head| [head.rows, head.columns, head.count]),
     flat: |_, b| file_read(flat::read_map(b.file.lend(), b.grid.lend())),
-    safe: |_, b| said(chantspruce::read_map(b.file.lend(), b.grid.lend()), |head| [head.rows, head.columns, head.count]),
+    safe: |_, b| {
+        let read = chantspruce::read_map(b.file.lend(), b.grid.lend());
+        let (file, grid) = (b.file.lend(), b.grid.lend());
+        said(read, |head| head_said(head, file, |out| chantspruce::write_map(head.rows, head.columns, grid, out)))
+    },
     kind: by_number,
-    kinds: &[0, 1, 2, 8, 9, 10, 11, 12],
+    kinds: &[0, 1, 2, 8, 9, 10, 11, 12, 19],
     sized: true,
 };
 
@@ -326,9 +340,13 @@ const READ_PLAN: Operation = Operation {
     make: Maker::for_plan_file,
     reference: |c| told(reference::read_plan(&c.file, &mut c.directions), |head| [head.rows, head.columns, head.count]),
     flat: |_, b| file_read(flat::read_plan(b.file.lend(), b.directions.lend())),
-    safe: |_, b| said(chantspruce::read_plan(b.file.lend(), b.directions.lend()), |head| [head.rows, head.columns, head.count]),
+    safe: |_, b| {
+        let read = chantspruce::read_plan(b.file.lend(), b.directions.lend());
+        let (file, directions) = (b.file.lend(), b.directions.lend());
+        said(read, |head| head_said(head, file, |out| chantspruce::write_plan(head.rows, head.columns, directions, out)))
+    },
     kind: by_number,
-    kinds: &[0, 1, 2, 8, 9, 10, 11, 12, 13],
+    kinds: &[0, 1, 2, 8, 9, 10, 11, 12, 13, 19],
     sized: true,
 };
 

@@ -636,6 +636,11 @@ impl Reader<'_> {
     }
 }
 
+/// 19: a record's cell is in a row above that of the record before it, or further left in the same row.
+fn test_order(before: Option<Cell>, cell: Cell, start: usize) -> Result<(), Refusal> {
+    if before.is_some_and(|b| cell < b) { refuse(19, start) } else { Ok(()) }
+}
+
 pub fn read_map(file: &[u8], grid: &mut [u8]) -> Result<Head, Refusal> {
     test_lengths(&[grid.len()])?;
     let mut reader = Reader { file, at: 0 };
@@ -643,6 +648,7 @@ pub fn read_map(file: &[u8], grid: &mut [u8]) -> Result<Head, Refusal> {
     let mut marks = [2; LENGTH];
     array.cells().filter(|&c| array.is_processor(c)).for_each(|c| marks[position(c)] = 0);
     let count = reader.number()?;
+    let mut before = None;
     for _ in 0..count {
         let start = reader.at;
         let fault = (reader.number()?, reader.number()?);
@@ -652,6 +658,8 @@ pub fn read_map(file: &[u8], grid: &mut [u8]) -> Result<Head, Refusal> {
         if marks[position(fault)] == 1 {
             return refuse(11, start);
         }
+        test_order(before, fault, start)?;
+        before = Some(fault);
         marks[position(fault)] = 1;
     }
     reader.end()?;
@@ -665,6 +673,7 @@ pub fn read_plan(file: &[u8], directions: &mut [u8]) -> Result<Head, Refusal> {
     let array = Array { rows: reader.side()?, columns: reader.side()? };
     let mut found = [0; LENGTH];
     let count = reader.number()?;
+    let mut before = None;
     for _ in 0..count {
         let place = reader.at;
         let start = (reader.number()?, reader.number()?);
@@ -678,6 +687,8 @@ pub fn read_plan(file: &[u8], directions: &mut [u8]) -> Result<Head, Refusal> {
         if !(1..=4).contains(&direction) {
             return refuse(13, place);
         }
+        test_order(before, start, place)?;
+        before = Some(start);
         found[position(start)] = direction as u8;
     }
     reader.end()?;

@@ -550,6 +550,7 @@ pub fn read_map(s: &[u8], grid: &mut [u8]) -> Result<(usize, usize, usize), Refu
     let (n, at) = read_size(s, 0)?;
     let (m, at) = read_size(s, at)?;
     let (count, mut at) = read_number(s, at)?;
+    let mut before = 0;
     let mut b = [0u8; LONG];
     for x in 0..32 {
         for y in 0..32 {
@@ -563,11 +564,15 @@ pub fn read_map(s: &[u8], grid: &mut [u8]) -> Result<(usize, usize, usize), Refu
         if !is_processor_at(n, m, x, y) {
             return refuse(10, at, 0);
         }
-        let mark = &mut b[32 * x + y];
-        if *mark == 1 {
+        let p = 32 * x + y;
+        if b[p] == 1 {
             return refuse(11, at, 0);
         }
-        *mark = 1;
+        if p < before {
+            return refuse(19, at, 0);
+        }
+        b[p] = 1;
+        before = p;
         at = next;
     }
     if at < s.len() {

@@ -1,4 +1,4 @@
--- The numbers of refusals are document 01's: the laws of tests in order, and the tests 1 to 3.
+-- The numbers of refusals are those of the documents: the laws of tests in order, and the tests 1 to 3.
 -- Assumes nothing.
 use Prim.Native.Nat.{ℕ, suc}
 use mathlib.Core.Path.{_≡_}

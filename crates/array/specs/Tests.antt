@@ -1,4 +1,4 @@
--- Document 01, "Numbers returned": a refusal, tests in order, and the first offender.
+-- Documents 01, "Numbers returned", and 02: a refusal, tests in order, and the first offender.
 -- Assumes nothing.
 use Prim.Native.Nat.{ℕ, suc, _≤_}
 use mathlib.Core.Path.{_≡_}
@@ -37,7 +37,7 @@ first-along f i (x ∷ xs) = or-else (f i x) (first-along f (suc i) xs)
 abbrev pub first-in : (ℕ → ℕ → Verdict) → List ℕ → Verdict
 first-in f b = first-along f 0 b
 
--- What an answer tells: the values of an accepted call, or document 01's number, place and second place.
+-- What an answer tells: the values of an accepted call, or the documents' number, place and second place.
 pub data Told : Type 0 where
   accepts : List ℕ → Told
   refuses : ℕ → ℕ → ℕ → Told
@@ -50,9 +50,9 @@ abbrev pub told : Verdict → Told
 told Accepted = accepts []
 told (Refused r) = refuses-as r
 
--- document 01's numbers are 1 to this one
+-- the documents' numbers of refusals are 1 to this one
 abbrev pub last-number : ℕ
-last-number = 18
+last-number = 19
 
 -- no refusal, or one with such a number
 abbrev pub Numbered : Told → Type 0

@@ -6,7 +6,7 @@ ghost use lib.ListN.{length};
 ghost use Rattle.array.specs.Place.{size, inner-at, corner-at, processor-at, inner, processor};
 ghost use Rattle.array.specs.Map.{faulty-mark, inner-faulty, allowed, marks-test, map-tests};
 
-// The refusal of a call: document 01's number, the place and the second place.
+// The refusal of a call: the documents' number, the place and the second place.
 pub struct Refusal {
     pub number: u8,
     pub place: usize,

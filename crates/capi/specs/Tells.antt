@@ -57,7 +57,7 @@ head-tells r = by-number (r .number) (r .place) (r .second) (r .rows ∷ r .colu
 abbrev pub length-tells : ChantspruceLength → Told
 length-tells r = by-number (r .number) (r .place) (r .second) (r .length ∷ [])
 
--- an answer x, what it tells, its flat struct, and what that tells: the same, with a number of document 01 where it is a refusal
+-- an answer x, what it tells, its flat struct, and what that tells: the same, with a number of the documents where it is a refusal
 pub record Kept {A B : Type 0} (told : A → Told) (flat : A → B) (tells : B → Told) (x : A) : Type 0 where
   pub numbered : Numbered (told x)
   pub same : tells (flat x) ≡ told x

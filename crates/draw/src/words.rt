@@ -135,6 +135,7 @@ pub fn reason(number: u8) {
         10 => output::text(b"a fault is at a place without a processor"),
         11 => output::text(b"a fault is listed a second time"),
         12 => output::text(b"bytes follow the last fault"),
+        19 => output::text(b"the faults are not in row order"),
         _ => output::text(b"this is not a map"),
     }
 }

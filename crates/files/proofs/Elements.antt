@@ -6,13 +6,13 @@ use mathlib.Core.Bool.{true, false, not, _&&_, true≢false}
 use mathlib.Core.List.{List, _∷_, _++_, append-assoc}
 use native.Mathlib.Omega.{arith}
 use lib.Dec.{ltb, leb, eqb}
-use lib.ListN.{length, getD, set}
-use borrow.Author.Tests.{leb-true, le-leb, eqb-true, eqb-false, ltb-false, not-true, not-false}
-use Rattle.array.specs.Place.{row, column, position, inner, processor}
+use lib.ListN.{length}
+use borrow.Author.Tests.{leb-true, le-leb, eqb-true, eqb-false, ne-eqb, ltb-false, not-true, not-false}
+use Rattle.array.specs.Place.{row, column, inner, processor}
 use Rattle.array.specs.Buffer.{positions-along}
 use Rattle.array.specs.Map.{faulty-mark, allowed}
 use Rattle.array.specs.declared.Verdict.the-variants.{Accepted}
-use Rattle.array.proofs.Bools.{by-bool, and-both, or-false, cond-taken, cond-left}
+use Rattle.array.proofs.Bools.{by-bool, and-true, and-both, or-false, cond-taken, cond-left}
 use Rattle.array.proofs.Verdicts.{accepted-not, accepted-false}
 use Rattle.formats.specs.Number.{bytes-of}
 use Rattle.formats.specs.Records.{recorded, record-bytes, records-along}
@@ -20,8 +20,7 @@ use Rattle.formats.specs.declared.Number.the-variants.{Read}
 use Rattle.formats.specs.declared.Kind.{Kind}
 use Rattle.formats.specs.declared.Kind.the-variants.{Map, Plan}
 use Rattle.formats.proofs.Trip.{read-at}
-use Rattle.readers.specs.Parts.{blank-mark, stands-at, value-at, is-value, marked}
-use Rattle.readers.specs.declared.Step.the-variants.{Next}
+use Rattle.readers.specs.Parts.{blank-mark, stands-at, value-at, is-value}
 use Rattle.readers.proofs.Cases.{value-low}
 use Rattle.writers.specs.Parts.{value-bytes}
 use Rattle.writers.proofs.Accepted.{element-test}
@@ -31,7 +30,6 @@ use Rattle.writers.proofs.Records.{record-is}
 pub record Kept (kind : Kind) (n m p v : ℕ) : Type 0 where
   pub stands : stands-at kind n m (row p) (column p) ≡ true
   pub value : is-value kind v ≡ true
-  pub free : recorded kind p (blank-mark kind n m p) ≡ false
 
 module _ (n m p v : ℕ) where
   fault-stands : allowed n m p v ≡ true → v ≡ 1 → processor n m p ≡ true
@@ -50,8 +48,7 @@ module _ (n m p v : ℕ) where
   pub kept : (kind : Kind) → element-test kind n m p v ≡ Accepted → recorded kind p v ≡ true → Kept kind n m p v
   unfolding faulty-mark
   kept Map h t =
-      let s = fault-stands (accepted-not (allowed n m p v) 3 p 0 h) (eqb-true v 1 t) in
-      record { stands = s; value = t; free = ap (λ (k : ℕ). eqb k 1) (cond-taken 0 2 refl s) }
+      record { stands = fault-stands (accepted-not (allowed n m p v) 3 p 0 h) (eqb-true v 1 t); value = t }
   kept Plan h t =
       let o = or-false (ltb 4 v) (not (inner n m p) && not (eqb v 0)) (accepted-false _ 4 p 0 h) in
       let l : v ≤ 4 = ltb-false 4 v (o .0) in
@@ -59,13 +56,25 @@ module _ (n m p v : ℕ) where
       record {
         stands = path-stands (o .1) t;
         value = and-both (leb 1 v) (leb v 4) (le-leb 1 v (omega arith)) (le-leb v 4 l);
-        free = refl;
       }
 
   pub unkept : (kind : Kind) → element-test kind n m p v ≡ Accepted → recorded kind p v ≡ false → blank-mark kind n m p ≡ v
   unfolding faulty-mark
   unkept Map h t = no-fault (accepted-not (allowed n m p v) 3 p 0 h) (eqb-false v 1 t)
   unkept Plan h t = sym (eqb-true v 0 (not-false (eqb v 0) t))
+
+-- a blank element has no record, and one with a record's value has one
+pub blank-free : (kind : Kind) (n m p : ℕ) → recorded kind p (blank-mark kind n m p) ≡ false
+unfolding faulty-mark
+blank-free Map n m p = by-bool (processor n m p) (λ t. rw t refl) (λ t. rw t refl)
+blank-free Plan n m p = refl
+
+pub value-recorded : (kind : Kind) (p v : ℕ) → is-value kind v ≡ true → recorded kind p v ≡ true
+unfolding faulty-mark
+value-recorded Map p v t = t
+value-recorded Plan p v t =
+    let l : 1 ≤ v = leb-true 1 v (and-true (leb 1 v) (leb v 4) t .0) in
+    ap not (ne-eqb v 0 (λ e. omega arith))
 
 -- the value of a record, read where it was written
 pub value-read :
@@ -80,15 +89,6 @@ value-read Map s front rest v at t es ea =
 value-read Plan s front rest v at t es ea =
     let l : v ≤ 4 = value-low Plan v t in
     read-at s front rest v at _ es ea refl (omega arith)
-
--- a record that is good marks its position
-pub good-marked :
-    (kind : Kind) (n m at x y v next : ℕ) (b : List ℕ) →
-    stands-at kind n m x y ≡ true →
-    recorded kind (position x y) (getD b (position x y) 0) ≡ false →
-    is-value kind v ≡ true →
-    marked kind n m at x y v next b ≡ (Next next, set b (position x y) v)
-good-marked kind n m at x y v next b s f t = cond-taken _ _ refl s ∙ cond-left _ _ refl f ∙ cond-taken _ _ refl t
 
 -- the records along a buffer, where the first element has one and where it has none
 module _ (kind : Kind) (p x : ℕ) (xs : List ℕ) where

@@ -2,3 +2,4 @@ pub mod Answers
 pub mod Elements
 pub mod RoundTrip
 pub mod Sound
+pub mod Canonical

@@ -21,16 +21,18 @@ use Rattle.formats.specs.Records.{recorded, record-bytes, records-along, record
 use Rattle.formats.specs.declared.Number.the-variants.{Read}
 use Rattle.formats.specs.declared.Kind.{Kind}
 use Rattle.formats.proofs.Trip.{read-written, read-at}
-use Rattle.readers.specs.Reading.{record-at, records-at, read-file}
+use Rattle.readers.specs.Reading.{record-at, records-at, whole-file, read-file}
 use Rattle.readers.specs.Parts.{blank-mark}
+use Rattle.readers.specs.declared.Head.{Head}
+use Rattle.readers.specs.declared.Step.{Step}
 use Rattle.readers.specs.declared.Step.the-variants.{Next}
-use Rattle.readers.proofs.Cases.{blank-is, blank-length, record-marked, more-suc, none-left, size-good, head-read, whole-read}
+use Rattle.readers.proofs.Cases.{blank-is, blank-length, record-marked, marked-in-order, in-order, more-suc, none-left, size-good, head-read, whole-read}
 use Rattle.writers.specs.Writing.{buffer-test, write-file}
 use Rattle.writers.specs.Parts.{value-bytes}
 use Rattle.writers.specs.declared.FileWritten.{FileWritten}
 use Rattle.writers.proofs.Accepted.{element-test, Passed, passed, file-refused, file-accepted, put-short, put-whole}
 use Rattle.files.specs.RoundTrip.{Round-trip}
-use Rattle.files.proofs.Elements.{Kept, kept, unkept, value-read, good-marked, along-some, along-none, count-some, count-none}
+use Rattle.files.proofs.Elements.{Kept, kept, unkept, blank-free, value-read, along-some, along-none, count-some, count-none}
 use Rattle.readers.specs.declared.FileRead.the-variants as read
 use Rattle.writers.specs.declared.FileWritten.the-variants as written
 
@@ -57,10 +59,10 @@ module _ (kind : Kind) (n m : ℕ) where
 
   -- The record of an element x at p, which stands behind `front`, is read into a buffer that is `done` before p and blank from there on.
   module _
-      (small : (n ≤ 30) × (m ≤ 30)) (s front rest done ys : List ℕ) (p x at : ℕ) (g : List ℕ)
+      (small : (n ≤ 30) × (m ≤ 30)) (s front rest done ys : List ℕ) (p x at before : ℕ) (g : List ℕ)
       (es : s ≡ front ++ (bytes-of (row p) ++ (bytes-of (column p) ++ (value-bytes kind x ++ rest))))
       (ea : at ≡ length front) (eg : g ≡ done ++ blank-mark kind n m p ∷ ys) (ed : length done ≡ p) (lg : length g ≡ 1024) (lp : p < 1024)
-      (good : Kept kind n m p x)
+      (lb : before ≤ p) (good : Kept kind n m p x)
     where
       abbrev row-end : List ℕ
       row-end = front ++ bytes-of (row p)
@@ -99,24 +101,26 @@ module _ (kind : Kind) (n m : ℕ) where
       free =
           ap (λ (z : ℕ). recorded kind (position (row p) (column p)) z) found
           ∙ ap (λ (z : ℕ). recorded kind z (blank-mark kind n m p)) here
-          ∙ good .free
+          ∙ blank-free kind n m p
 
-      record-read : record-at kind s n m at g ≡ (Next (length value-end), (done ++ (x ∷ [])) ++ ys)
+      record-read : record-at kind s n m at before g ≡ (Next (length value-end) p, (done ++ (x ∷ [])) ++ ys)
       record-read =
-          record-marked s n m at g (row p) (length row-end) (read-at s front _ (row p) at (length row-end) es ea at-row (omega arith))
+          record-marked s n m at before g (row p) (length row-end) (read-at s front _ (row p) at (length row-end) es ea at-row (omega arith))
           (column p) (length column-end)
           (read-at s row-end _ (column p) (length row-end) (length column-end) after-row refl at-column (omega arith))
           small lg kind x (length value-end)
           (value-read kind s column-end rest x (length column-end) (good .value) after-column refl
           ∙ ap (λ (k : ℕ). Read x k) (sym (length-append column-end (value-bytes kind x))))
-          ∙ good-marked kind n m at (row p) (column p) x (length value-end) g (good .stands) free (good .value)
-          ∙ ap (λ (l : List ℕ). (Next (length value-end), l)) stored
+          ∙ marked-in-order kind n m at before (row p) (column p) x (length value-end) g (good .stands) free (good .value)
+          ∙ in-order at before (position (row p) (column p)) x (length value-end) g (omega (arith, here))
+          ∙ ap (λ (q : ℕ). (Next (length value-end) q, set g (position (row p) (column p)) x)) here
+          ∙ ap (λ (l : List ℕ). (Next (length value-end) p, l)) stored
 
-  -- The records of the elements xs, which stand from p on, are read from where they start, into a buffer that is whole before p and blank
-  -- from there on.
-  module _ (small : (n ≤ 30) × (m ≤ 30)) (s whole : List ℕ) where
+  -- The records of the elements xs, which stand from p on, are read from where they start to the end of the file, into a buffer that is
+  -- whole before p and blank from there on, after a record that is no higher than p.
+  module _ (small : (n ≤ 30) × (m ≤ 30)) (s whole : List ℕ) (head : Head) (lent : List ℕ) where
     walk :
-        (xs front done : List ℕ) (p at : ℕ) (g : List ℕ) →
+        (xs front done : List ℕ) (p at before : ℕ) (g : List ℕ) →
         s ≡ front ++ records p xs →
         at ≡ length front →
         g ≡ done ++ blanks p (length xs) →
@@ -124,13 +128,14 @@ module _ (kind : Kind) (n m : ℕ) where
         length done ≡ p →
         length g ≡ 1024 →
         p + length xs ≤ 1024 →
+        before ≤ p →
         first-along (element-test kind n m) p xs ≡ Accepted →
-        records-at kind s n m (count p xs) at g ≡ (Next (length s), whole)
+        whole-file s head lent (records-at kind s n m (count p xs) at before g) ≡ (read.File head, whole)
     unfolding records-along positions-along span
-    walk [] front done p at g es ea eg er ed lg l a =
+    walk [] front done p at before g es ea eg er ed lg l lb a =
         let f : length s ≡ length front = ap length es ∙ ap length (append-nil front) in
-        none-left kind s n m at g ∙ cc
-    walk (x ∷ xs) front done p at g es ea eg er ed lg l a =
+        whole-read s head lent at before g (none-left kind s n m at before g) (omega arith) ∙ ap (λ (b : List ℕ). (read.File head, b)) (eg ∙ sym er)
+    walk (x ∷ xs) front done p at before g es ea eg er ed lg l lb a =
         let t = heads p x xs a in
         let er′ : whole ≡ (done ++ (x ∷ [])) ++ xs = er ∙ sym (append-snoc done x xs) in
         let ed′ : length (done ++ (x ∷ [])) ≡ suc p = omega (arith, length-append done (x ∷ [])) in
@@ -141,17 +146,19 @@ module _ (kind : Kind) (n m : ℕ) where
         let next : List ℕ = ((front ++ bytes-of (row p)) ++ bytes-of (column p)) ++ value-bytes kind x in
         let es′ = es ∙ ap (λ (z : List ℕ). front ++ z) (along-some kind p x xs e) in
         let lg′ : length ((done ++ (x ∷ [])) ++ ys) ≡ 1024 =
-        ap length (sym (stored small s front _ done ys p x at g es′ ea eg ed lg (omega arith) k)) ∙ length-set g _ x ∙ lg in
-        ap (λ (j : ℕ). records-at kind s n m j at g) (count-some kind p x xs e)
-        ∙ more-suc kind s n m _ at g _ _ (record-read small s front _ done ys p x at g es′ ea eg ed lg (omega arith) k)
-        ∙ walk xs next (done ++ (x ∷ [])) (suc p) (length next) ((done ++ (x ∷ [])) ++ ys)
-        (after-value small s front _ done ys p x at g es′ ea eg ed lg (omega arith) k) refl refl er′ ed′ lg′ (omega arith) (t .1))
+        ap length (sym (stored small s front _ done ys p x at before g es′ ea eg ed lg (omega arith) lb k)) ∙ length-set g _ x ∙ lg in
+        ap (λ (j : ℕ). whole-file s head lent (records-at kind s n m j at before g)) (count-some kind p x xs e)
+        ∙ ap (λ (r : Step × List ℕ). whole-file s head lent r)
+        (more-suc kind s n m _ at before g _ _ _ (record-read small s front _ done ys p x at before g es′ ea eg ed lg (omega arith) lb k))
+        ∙ walk xs next (done ++ (x ∷ [])) (suc p) (length next) p ((done ++ (x ∷ [])) ++ ys)
+        (after-value small s front _ done ys p x at before g es′ ea eg ed lg (omega arith) lb k) refl refl er′ ed′ lg′ (omega arith) (omega arith)
+        (t .1))
         (λ e.
         let es′ = es ∙ ap (λ (z : List ℕ). front ++ z) (along-none kind p x xs e) in
         let eg′ : g ≡ (done ++ (x ∷ [])) ++ ys =
         eg ∙ ap (λ (z : ℕ). done ++ (z ∷ ys)) (unkept n m p x kind (t .0) e) ∙ sym (append-snoc done x ys) in
-        ap (λ (j : ℕ). records-at kind s n m j at g) (count-none kind p x xs e)
-        ∙ walk xs front (done ++ (x ∷ [])) (suc p) at g es′ ea eg′ er′ ed′ lg (omega arith) (t .1))
+        ap (λ (j : ℕ). whole-file s head lent (records-at kind s n m j at before g)) (count-none kind p x xs e)
+        ∙ walk xs front (done ++ (x ∷ [])) (suc p) at before g es′ ea eg′ er′ ed′ lg (omega arith) (omega arith) (t .1))
 
   -- The file of an accepted buffer is read as that buffer.
   module _ (b lent : List ℕ) (w : length lent ≡ 1024) (p : Passed kind n m b) where
@@ -194,18 +201,21 @@ module _ (kind : Kind) (n m : ℕ) where
     )
 
     body-read :
-        records-at kind file n m (record-count kind b) (length ((bytes-of n ++ bytes-of m) ++ tally)) (blank kind n m)
-        ≡ (Next (length file), b)
+        (head : Head) →
+        whole-file file head lent
+        (records-at kind file n m (record-count kind b) (length ((bytes-of n ++ bytes-of m) ++ tally)) 0 (blank kind n m))
+        ≡ (read.File head, b)
     unfolding record-count
-    body-read =
+    body-read head =
         let l : length b ≡ 1024 = p .is-long in
-        walk (p .sizes .rows-high, p .sizes .columns-high) file b b ((bytes-of n ++ bytes-of m) ++ tally) [] 0 _ (blank kind n m) after-tally refl
-        (blank-is kind n m ∙ ap (λ (k : ℕ). blanks 0 k) (sym l)) refl refl (blank-length kind n m) (omega arith) (p .scanned)
+        walk (p .sizes .rows-high, p .sizes .columns-high) file b head lent b ((bytes-of n ++ bytes-of m) ++ tally) [] 0 _ 0 (blank kind n m)
+        after-tally refl (blank-is kind n m ∙ ap (λ (k : ℕ). blanks 0 k) (sym l)) refl refl (blank-length kind n m) (omega arith) (omega arith)
+        (p .scanned)
 
     file-read : read-file kind file lent ≡ (read.File (record { rows = n; columns = m; count = record-count kind b }), b)
     file-read =
         head-read kind file lent w n _ (size-good file 0 n _ rows-read (sizes .0)) m _ (size-good file _ m _ columns-read (sizes .1)) _ _ tally-read
-        ∙ whole-read file _ lent _ b body-read (omega arith)
+        ∙ body-read _
 
   -- What the writer accepts is the file, and the file buffer begins with it.
   accepted :

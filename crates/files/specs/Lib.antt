@@ -1,3 +1,4 @@
 pub mod RoundTrip
 pub mod Answers
 pub mod Sound
+pub mod Canonical

@@ -1,4 +1,5 @@
 pub mod Cases
 pub mod Answers
 pub mod Trip
+pub mod Stands
 pub mod Numbered

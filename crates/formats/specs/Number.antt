@@ -1,6 +1,6 @@
 -- Document 01, "Files": the numbers of a file. Below 128 a number is one byte; else two, the first with the low seven bits and its top bit set;
 -- 16,383 is the highest. s is the file, `at` the number's offset. Assumes nothing.
-use Prim.Native.Nat.{ℕ, _+_, _-_, _*_, _/_, _%_}
+use Prim.Native.Nat.{ℕ, _+_, _-_, _*_, _/_, _%_, _<_}
 use mathlib.Core.Bool.{cond, _||_}
 use mathlib.Core.List.{List, [], _∷_}
 use lib.Dec.{ltb, leb, eqb}
@@ -10,6 +10,10 @@ use Rattle.array.specs.Tests.{refusal, Told, accepts, refuses-as}
 use Rattle.array.specs.declared.Refusal.{Refusal}
 use Rattle.formats.specs.declared.Number.{Number}
 use Rattle.formats.specs.declared.Number.the-variants.{Read, Refused}
+
+-- a file's elements are bytes
+abbrev pub Bytes : List ℕ → Type 0
+Bytes s = (i : ℕ) → i < length s → getD s i 0 < 256
 
 -- what a number's answer tells: its value and the offset after it, or the refusal
 abbrev pub told : Number → Told

@@ -40,4 +40,5 @@ examples =
       short-number = refl;
       empty = refl;
       large-size = refl;
+      unordered = refl;
     }

@@ -1,4 +1,4 @@
--- Listings of files that document 01 names, computed: its example, a map beyond repair, and files that are refused.
+-- Listings, computed: of document 01's example, of a map beyond repair, and of files that are refused.
 -- Assumes nothing.
 use mathlib.Core.Path.{_≡_}
 use mathlib.Core.List.{[], _∷_}
@@ -17,8 +17,9 @@ pub record Examples : Type 0 where
       ∷ "cell 1 1 2 1" ∷ "cell 1 2 1 2" ∷ "cell 2 1 3 1" ∷ "cell 2 2 2 2"
       ∷ "across bcdbcdbd" ∷ "down bbbbbbbb" ∷ [])
   -- size 1 × 1, all five processors faulty
-  pub beyond : listing (1 ∷ 1 ∷ 5 ∷ 1 ∷ 1 ∷ 0 ∷ 1 ∷ 1 ∷ 0 ∷ 1 ∷ 2 ∷ 2 ∷ 1 ∷ []) ≡ ascii-lines ("map 1 1 5" ∷ "beyond 4" ∷ [])
-  -- 82 00 for N; the empty file; M is 31
+  pub beyond : listing (1 ∷ 1 ∷ 5 ∷ 0 ∷ 1 ∷ 1 ∷ 0 ∷ 1 ∷ 1 ∷ 1 ∷ 2 ∷ 2 ∷ 1 ∷ []) ≡ ascii-lines ("map 1 1 5" ∷ "beyond 4" ∷ [])
+  -- 82 00 for N; the empty file; M is 31; (2, 1) before (1, 1)
   pub short-number : listing (130 ∷ 0 ∷ []) ≡ ascii-lines ("refused 9 0" ∷ [])
   pub empty : listing [] ≡ ascii-lines ("refused 8 0" ∷ [])
   pub large-size : listing (2 ∷ 31 ∷ 0 ∷ []) ≡ ascii-lines ("refused 1 1" ∷ [])
+  pub unordered : listing (2 ∷ 2 ∷ 2 ∷ 2 ∷ 1 ∷ 1 ∷ 1 ∷ []) ≡ ascii-lines ("refused 19 5" ∷ [])

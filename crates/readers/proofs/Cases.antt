@@ -14,15 +14,15 @@ use Rattle.array.specs.Tests.{refusal}
 use Rattle.array.specs.declared.Refusal.{Refusal}
 use Rattle.array.proofs.Bools.{and-true, by-bool, cond-taken, cond-left}
 use Rattle.array.proofs.Places.{inner-stands, processor-within}
-use Rattle.array.proofs.Fills.{tabulate-length}
+use Rattle.array.proofs.Fills.{tabulate-length, tabulate-at}
 use Rattle.array.proofs.Marks.{faulty-read}
 use Rattle.formats.specs.Number.{number-at, size-at, refused}
-use Rattle.formats.specs.Records.{healthy-grid, blank}
+use Rattle.formats.specs.Records.{healthy-grid, blank, recorded}
 use Rattle.formats.specs.declared.Number.{Number}
 use Rattle.formats.specs.declared.Number.the-variants.{Read, Refused}
 use Rattle.formats.specs.declared.Kind.{Kind}
 use Rattle.formats.specs.declared.Kind.the-variants.{Map, Plan}
-use Rattle.readers.specs.Reading.{no-record, mark-fault, mark-path, record-at, records-at, whole-file, read-file}
+use Rattle.readers.specs.Reading.{no-record, mark-in-order, mark-fault, mark-path, record-at, records-at, whole-file, body-at, read-file}
 use Rattle.readers.specs.Parts.{blank-mark, stands-at, value-at, is-value, marked}
 use Rattle.readers.specs.declared.Step.{Step}
 use Rattle.readers.specs.declared.Head.{Head}
@@ -43,19 +43,22 @@ module _ (s : List ℕ) (at : ℕ) where
     unfolding size-at
     size-bad t = rw q (cond-left (Read v next) (refused 1 at) refl t)
 
-  -- a size that was read is one, so it is at most 30
-  pub size-read : (v next : ℕ) → size-at s at ≡ Read v next → size v ≡ true
-  size-read v next q = by-number (number-at s at) refl
+  -- a size that was read is a number that was read, and is one, so it is at most 30
+  pub size-number : (v next : ℕ) → size-at s at ≡ Read v next → (number-at s at ≡ Read v next) × (size v ≡ true)
+  size-number v next q = by-number (number-at s at) refl
     where
-      by-number : (x : Number) → number-at s at ≡ x → size v ≡ true
+      by-number : (x : Number) → number-at s at ≡ x → (number-at s at ≡ Read v next) × (size v ≡ true)
       by-number (Refused e) h = absurd (let z : _≡_ {A = ℕ} 0 1 = cc (size-refused e h) in omega arith)
       by-number (Read w k) h =
           by-bool (size w)
-          (λ t. let z : w ≡ v = cc (size-good w k h t) in rw z at t)
+          (λ t.
+          let e : Read w k ≡ Read v next = sym (size-good w k h t) ∙ q in
+          let z : w ≡ v = cc e in
+          (h ∙ e, rw z at t))
           (λ t. absurd (let z : _≡_ {A = ℕ} 0 1 = cc (size-bad w k h t) in omega arith))
 
   pub size-bound : (v next : ℕ) → size-at s at ≡ Read v next → v ≤ 30
-  size-bound v next q = leb-true v 30 (and-true (leb 1 v) (leb v 30) (size-read v next q) .1)
+  size-bound v next q = leb-true v 30 (and-true (leb 1 v) (leb v 30) (size-number v next q .1) .1)
 
 -- a blank buffer, by its positions
 pub blank-is : (kind : Kind) (n m : ℕ) → blank kind n m ≡ buffer (blank-mark kind n m)
@@ -65,6 +68,9 @@ blank-is Plan n m = refl
 
 pub blank-length : (kind : Kind) (n m : ℕ) → length (blank kind n m) ≡ 1024
 blank-length kind n m = ap length (blank-is kind n m) ∙ tabulate-length (blank-mark kind n m) 1024
+
+pub blank-at : (kind : Kind) (n m p : ℕ) → p < 1024 → getD (blank kind n m) p 0 ≡ blank-mark kind n m p
+blank-at kind n m p l = ap (λ (b : List ℕ). getD b p 0) (blank-is kind n m) ∙ tabulate-at (blank-mark kind n m) 1024 p 0 l
 
 -- the row and the column of a record that may stand
 pub stands-within : (kind : Kind) (n m x y : ℕ) → stands-at kind n m x y ≡ true → (x ≤ n + 1) × (y ≤ m + 1)
@@ -80,35 +86,36 @@ swap : {A : Type 0} (t : Bool) (a b : A) → cond t a b ≡ cond (not t) b a
 swap true a b = refl
 swap false a b = refl
 
-module _ (n m : ℕ) (small : (n ≤ 30) × (m ≤ 30)) (at x y next : ℕ) (b : List ℕ) (w : length b ≡ 1024) where
-  fault-marked : mark-fault n m at x y next b ≡ marked Map n m at x y 1 next b
+module _ (n m : ℕ) (small : (n ≤ 30) × (m ≤ 30)) (at before x y next : ℕ) (b : List ℕ) (w : length b ≡ 1024) where
+  fault-marked : mark-fault n m at before x y next b ≡ marked Map n m at before x y 1 next b
   fault-marked =
       by-bool (processor-at n m x y)
       (λ t.
       let l = stands-within Map n m x y t in
       cond-taken _ _ refl t
-      ∙ ap (λ (z : Bool). cond z (no-record 11 at b) (step.Next next, set b (position x y) 1))
+      ∙ ap (λ (z : Bool). cond z (no-record 11 at b) (mark-in-order at before (position x y) 1 next b))
       (faulty-read b (position x y) (omega arith))
       ∙ sym (cond-taken _ _ refl t))
       (λ t. cond-left _ _ refl t ∙ sym (cond-left _ _ refl t))
 
-  path-marked : (d : ℕ) → mark-path n m at x y d next b ≡ marked Plan n m at x y d next b
+  path-marked : (d : ℕ) → mark-path n m at before x y d next b ≡ marked Plan n m at before x y d next b
   path-marked d = ap (λ (z : Step × List ℕ). cond (inner-at n m x y) z (no-record 10 at b)) (swap (eqb (getD b (position x y) 0) 0) _ _)
 
-module _ (s : List ℕ) (n m at : ℕ) (b : List ℕ) where
-  pub no-row : (kind : Kind) (e : Refusal) → number-at s at ≡ Refused e → record-at kind s n m at b ≡ (step.Refused e, b)
+module _ (s : List ℕ) (n m at before : ℕ) (b : List ℕ) where
+  pub no-row : (kind : Kind) (e : Refusal) → number-at s at ≡ Refused e → record-at kind s n m at before b ≡ (step.Refused e, b)
   unfolding record-at
   no-row Map e q = rw q
   no-row Plan e q = rw q
 
   module _ (x a : ℕ) (q : number-at s at ≡ Read x a) where
-    pub no-column : (kind : Kind) (e : Refusal) → number-at s a ≡ Refused e → record-at kind s n m at b ≡ (step.Refused e, b)
+    pub no-column : (kind : Kind) (e : Refusal) → number-at s a ≡ Refused e → record-at kind s n m at before b ≡ (step.Refused e, b)
     unfolding record-at
     no-column Map e r = rw (q, r)
     no-column Plan e r = rw (q, r)
 
     module _ (y c : ℕ) (r : number-at s a ≡ Read y c) where
-      pub no-value : (kind : Kind) (e : Refusal) → value-at kind s c ≡ Refused e → record-at kind s n m at b ≡ (step.Refused e, b)
+      pub no-value :
+          (kind : Kind) (e : Refusal) → value-at kind s c ≡ Refused e → record-at kind s n m at before b ≡ (step.Refused e, b)
       unfolding record-at
       no-value Map e t = absurd (let z : _≡_ {A = ℕ} 0 1 = cc in omega arith)
       no-value Plan e t = rw (q, r, t)
@@ -118,56 +125,77 @@ module _ (s : List ℕ) (n m at : ℕ) (b : List ℕ) where
           length b ≡ 1024 →
           (kind : Kind) (v next : ℕ) →
           value-at kind s c ≡ Read v next →
-          record-at kind s n m at b ≡ marked kind n m at x y v next b
+          record-at kind s n m at before b ≡ marked kind n m at before x y v next b
       unfolding record-at
       record-marked small w Map v next t =
           let e : 1 ≡ v = cc in
           let f : c ≡ next = cc in
           rw (q, r)
-          (fault-marked n m small at x y c b w
-          ∙ ap (λ (z : ℕ). marked Map n m at x y z c b) e
-          ∙ ap (λ (z : ℕ). marked Map n m at x y v z b) f)
-      record-marked small w Plan v next t = rw (q, r, t) (path-marked n m small at x y next b w v)
+          (fault-marked n m small at before x y c b w
+          ∙ ap (λ (z : ℕ). marked Map n m at before x y z c b) e
+          ∙ ap (λ (z : ℕ). marked Map n m at before x y v z b) f)
+      record-marked small w Plan v next t = rw (q, r, t) (path-marked n m small at before x y next b w v)
 
-module _ (kind : Kind) (s : List ℕ) (n m k at : ℕ) (b : List ℕ) where
+-- a record that passes 10, 11 and 13 is left to its order
+pub marked-in-order :
+    (kind : Kind) (n m at before x y v next : ℕ) (b : List ℕ) →
+    stands-at kind n m x y ≡ true →
+    recorded kind (position x y) (getD b (position x y) 0) ≡ false →
+    is-value kind v ≡ true →
+    marked kind n m at before x y v next b ≡ mark-in-order at before (position x y) v next b
+marked-in-order kind n m at before x y v next b s f t = cond-taken _ _ refl s ∙ cond-left _ _ refl f ∙ cond-taken _ _ refl t
+
+-- one in order marks its position, one that is lower than the record before is 19
+module _ (at before p v next : ℕ) (b : List ℕ) where
+  pub in-order : before ≤ p → mark-in-order at before p v next b ≡ (step.Next next p, set b p v)
+  in-order l = rw (le-ltb _ _ l)
+
+  pub out-of-order : p < before → mark-in-order at before p v next b ≡ no-record 19 at b
+  out-of-order l = rw (lt-ltb _ _ l)
+
+module _ (kind : Kind) (s : List ℕ) (n m k at before : ℕ) (b : List ℕ) where
   pub more-suc :
-      (next : ℕ) (c : List ℕ) →
-      record-at kind s n m at b ≡ (step.Next next, c) →
-      records-at kind s n m (suc k) at b ≡ records-at kind s n m k next c
+      (next p : ℕ) (c : List ℕ) →
+      record-at kind s n m at before b ≡ (step.Next next p, c) →
+      records-at kind s n m (suc k) at before b ≡ records-at kind s n m k next p c
   unfolding records-at
-  more-suc next c q = rw q
+  more-suc next p c q = rw q
 
   pub stop-suc :
       (e : Refusal) (c : List ℕ) →
-      record-at kind s n m at b ≡ (step.Refused e, c) →
-      records-at kind s n m (suc k) at b ≡ (step.Refused e, c)
+      record-at kind s n m at before b ≡ (step.Refused e, c) →
+      records-at kind s n m (suc k) at before b ≡ (step.Refused e, c)
   unfolding records-at
   stop-suc e c q = rw q
 
-module _ (kind : Kind) (s : List ℕ) (n m k at : ℕ) (b : List ℕ) (l : 0 < k) where
+module _ (kind : Kind) (s : List ℕ) (n m k at before : ℕ) (b : List ℕ) (l : 0 < k) where
   some : k ≡ suc (k - 1)
   some = omega arith
 
   pub more :
-      (next : ℕ) (c : List ℕ) →
-      record-at kind s n m at b ≡ (step.Next next, c) →
-      records-at kind s n m k at b ≡ records-at kind s n m (k - 1) next c
-  more next c q = ap (λ (j : ℕ). records-at kind s n m j at b) some ∙ more-suc kind s n m (k - 1) at b next c q
+      (next p : ℕ) (c : List ℕ) →
+      record-at kind s n m at before b ≡ (step.Next next p, c) →
+      records-at kind s n m k at before b ≡ records-at kind s n m (k - 1) next p c
+  more next p c q =
+      ap (λ (j : ℕ). records-at kind s n m j at before b) some ∙ more-suc kind s n m (k - 1) at before b next p c q
 
   pub stop :
-      (e : Refusal) (c : List ℕ) → record-at kind s n m at b ≡ (step.Refused e, c) → records-at kind s n m k at b ≡ (step.Refused e, c)
-  stop e c q = ap (λ (j : ℕ). records-at kind s n m j at b) some ∙ stop-suc kind s n m (k - 1) at b e c q
+      (e : Refusal) (c : List ℕ) →
+      record-at kind s n m at before b ≡ (step.Refused e, c) →
+      records-at kind s n m k at before b ≡ (step.Refused e, c)
+  stop e c q = ap (λ (j : ℕ). records-at kind s n m j at before b) some ∙ stop-suc kind s n m (k - 1) at before b e c q
 
-pub none-left : (kind : Kind) (s : List ℕ) (n m at : ℕ) (b : List ℕ) → records-at kind s n m 0 at b ≡ (step.Next at, b)
+pub none-left :
+    (kind : Kind) (s : List ℕ) (n m at before : ℕ) (b : List ℕ) → records-at kind s n m 0 at before b ≡ (step.Next at before, b)
 unfolding records-at
-none-left kind s n m at b = refl
+none-left kind s n m at before b = refl
 
 -- a whole file, from what its records answered
 module _ (s : List ℕ) (head : Head) (lent : List ℕ) {x : Step × List ℕ} where
   pub whole-refused : (e : Refusal) (b : List ℕ) → x ≡ (step.Refused e, b) → whole-file s head lent x ≡ (file.Refused e, lent)
   whole-refused e b u = rw u
 
-  module _ (at : ℕ) (b : List ℕ) (u : x ≡ (step.Next at, b)) where
+  module _ (at p : ℕ) (b : List ℕ) (u : x ≡ (step.Next at p, b)) where
     pub whole-more : at < length s → whole-file s head lent x ≡ (file.Refused (refusal 12 at 0), lent)
     whole-more l = rw (u, lt-ltb _ _ l)
 
@@ -197,7 +225,6 @@ module _ (kind : Kind) (s lent : List ℕ) where
         pub head-read :
             (k c : ℕ) →
             number-at s b ≡ Read k c →
-            read-file kind s lent
-            ≡ whole-file s (record { rows = n; columns = m; count = k }) lent (records-at kind s n m k c (blank kind n m))
+            read-file kind s lent ≡ body-at kind s (record { rows = n; columns = m; count = k }) lent c
         unfolding read-file
         head-read k c t = simp (eq-eqb _ _ w, q, r, t)

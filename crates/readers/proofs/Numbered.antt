@@ -1,4 +1,4 @@
--- The numbers of the readers, 1, 2 and 8 to 13, are document 01's.
+-- The numbers of the readers, 1, 2, 8 to 13 and 19, are those of the documents.
 -- Assumes nothing.
 use Prim.Native.Nat.{ℕ, zero, suc}
 use mathlib.Core.List.{List, [], _∷_}
@@ -14,34 +14,34 @@ use Rattle.readers.specs.declared.FileRead.{FileRead}
 use Rattle.readers.specs.declared.Step.the-variants as step
 
 abbrev step-told : Step × List ℕ → Told
-step-told (step.Next at, b) = accepts (at ∷ [])
+step-told (step.Next at p, b) = accepts (at ∷ p ∷ [])
 step-told (step.Refused r, b) = refuses-as r
 
 abbrev file-told : FileRead × List ℕ → Told
 file-told x = told (x .0)
 
-record-numbered : (kind : Kind) (s : List ℕ) (n m at : ℕ) (b : List ℕ)
-    → Numbered-as step-told (record-at kind s n m at b)
+record-numbered : (kind : Kind) (s : List ℕ) (n m at before : ℕ) (b : List ℕ)
+    → Numbered-as step-told (record-at kind s n m at before b)
 unfolding record-at
-record-numbered Map s n m at b = search (numbers, numbered-read, number-numbered) depth 9
-record-numbered Plan s n m at b = search (numbers, numbered-read, number-numbered) depth 9
+record-numbered Map s n m at before b = search (numbers, numbered-read, number-numbered) depth 9
+record-numbered Plan s n m at before b = search (numbers, numbered-read, number-numbered) depth 9
 
-numbered-then : (x : Step × List ℕ) {f : ℕ → List ℕ → Step × List ℕ} → Numbered-as step-told x
-    → ((at : ℕ) (b : List ℕ) → Numbered-as step-told (f at b)) → Numbered-as step-told (and-then x f)
-numbered-then (step.Next at, b) h g = g at b
+numbered-then : (x : Step × List ℕ) {f : ℕ → ℕ → List ℕ → Step × List ℕ} → Numbered-as step-told x
+    → ((at p : ℕ) (b : List ℕ) → Numbered-as step-told (f at p b)) → Numbered-as step-told (and-then x f)
+numbered-then (step.Next at p, b) h g = g at p b
 numbered-then (step.Refused r, b) h g = h
 
-records-numbered : (kind : Kind) (s : List ℕ) (n m k at : ℕ) (b : List ℕ)
-    → Numbered-as step-told (records-at kind s n m k at b)
+records-numbered : (kind : Kind) (s : List ℕ) (n m k at before : ℕ) (b : List ℕ)
+    → Numbered-as step-told (records-at kind s n m k at before b)
 unfolding records-at
-records-numbered kind s n m zero at b = search numbers
-records-numbered kind s n m (suc k) at b =
-    numbered-then (record-at kind s n m at b) (record-numbered kind s n m at b)
-    (λ next d. records-numbered kind s n m k next d)
+records-numbered kind s n m zero at before b = search numbers
+records-numbered kind s n m (suc k) at before b =
+    numbered-then (record-at kind s n m at before b) (record-numbered kind s n m at before b)
+    (λ next p d. records-numbered kind s n m k next p d)
 
 numbered-whole : (s : List ℕ) (head : Head) (lent : List ℕ) (x : Step × List ℕ) → Numbered-as step-told x
     → Numbered-as file-told (whole-file s head lent x)
-numbered-whole s head lent (step.Next at, b) h = search numbers
+numbered-whole s head lent (step.Next at p, b) h = search numbers
 numbered-whole s head lent (step.Refused r, b) h = record { numbered = h .numbered }
 
 pub file-numbered : (kind : Kind) (s lent : List ℕ) → Numbered-as file-told (read-file kind s lent)

@@ -3,7 +3,7 @@ use Prim.Native.Nat.{ℕ}
 use mathlib.Core.Bool.{Bool, cond, _&&_}
 use mathlib.Core.List.{List}
 use lib.Dec.{leb, eqb}
-use lib.ListN.{getD, set}
+use lib.ListN.{getD}
 use Rattle.array.specs.Place.{position, inner-at, processor-at}
 use Rattle.array.specs.Buffer.{nothing-at}
 use Rattle.formats.specs.Number.{number-at}
@@ -12,9 +12,8 @@ use Rattle.formats.specs.declared.Number.{Number}
 use Rattle.formats.specs.declared.Number.the-variants.{Read}
 use Rattle.formats.specs.declared.Kind.{Kind}
 use Rattle.formats.specs.declared.Kind.the-variants.{Map, Plan}
-use Rattle.readers.specs.Reading.{no-record}
+use Rattle.readers.specs.Reading.{no-record, mark-in-order}
 use Rattle.readers.specs.declared.Step.{Step}
-use Rattle.readers.specs.declared.Step.the-variants.{Next}
 
 -- what a blank buffer holds at a position
 abbrev pub blank-mark : Kind → ℕ → ℕ → ℕ → ℕ
@@ -37,9 +36,9 @@ is-value Map v = eqb v 1
 is-value Plan v = leb 1 v && leb v 4
 
 -- a record (x, y) that writes v, judged and marked
-abbrev pub marked : Kind → ℕ → ℕ → ℕ → ℕ → ℕ → ℕ → ℕ → List ℕ → Step × List ℕ
-marked kind n m at x y v next b =
+abbrev pub marked : Kind → ℕ → ℕ → ℕ → ℕ → ℕ → ℕ → ℕ → ℕ → List ℕ → Step × List ℕ
+marked kind n m at before x y v next b =
     cond (stands-at kind n m x y)
     (cond (recorded kind (position x y) (getD b (position x y) 0)) (no-record 11 at b)
-    (cond (is-value kind v) (Next next, set b (position x y) v) (no-record 13 at b)))
+    (cond (is-value kind v) (mark-in-order at before (position x y) v next b) (no-record 13 at b)))
     (no-record 10 at b)

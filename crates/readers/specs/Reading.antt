@@ -1,5 +1,5 @@
--- Document 01, "Files" and "Numbers returned": what a reader answers, and the lent buffer afterwards.
--- Assumes nothing.
+-- Document 01, "Files" and "Numbers returned", and document 02, T-01: what a reader answers, and the lent buffer
+-- afterwards. Assumes nothing.
 use Prim.Native.Nat.{ℕ, zero, suc}
 use mathlib.Core.Bool.{cond, _&&_}
 use mathlib.Core.List.{List, [], _∷_}
@@ -28,57 +28,69 @@ told (Refused r) = refuses-as r
 abbrev pub no-record : ℕ → ℕ → List ℕ → Step × List ℕ
 no-record k at b = (step.Refused (refusal k at 0), b)
 
--- A fault (x, y) is marked in a grid. 10: there is no processor. 11: the position is marked already.
-abbrev pub mark-fault : ℕ → ℕ → ℕ → ℕ → ℕ → ℕ → List ℕ → Step × List ℕ
-mark-fault n m at x y next grid =
+-- T-01. 19: position p is lower than that of the record before. At the first record `before` is 0, and no position is
+-- lower. Else v is marked at p.
+abbrev pub mark-in-order : ℕ → ℕ → ℕ → ℕ → ℕ → List ℕ → Step × List ℕ
+mark-in-order at before p v next b = cond (ltb p before) (no-record 19 at b) (step.Next next p, set b p v)
+
+-- A fault (x, y) is marked in a grid. 10: there is no processor. 11: the position is marked already. Then 19.
+abbrev pub mark-fault : ℕ → ℕ → ℕ → ℕ → ℕ → ℕ → ℕ → List ℕ → Step × List ℕ
+mark-fault n m at before x y next grid =
     cond (processor-at n m x y)
-    (cond (faulty grid (position x y)) (no-record 11 at grid) (step.Next next, set grid (position x y) 1))
+    (cond (faulty grid (position x y)) (no-record 11 at grid) (mark-in-order at before (position x y) 1 next grid))
     (no-record 10 at grid)
 
--- The path of direction d from (x, y) is marked among the directions. 10: it starts off the inner positions. 11: that position has one already.
--- 13: d is none of the four directions.
-abbrev pub mark-path : ℕ → ℕ → ℕ → ℕ → ℕ → ℕ → ℕ → List ℕ → Step × List ℕ
-mark-path n m at x y d next directions =
+-- The path of direction d from (x, y) is marked among the directions. 10: it starts off the inner positions. 11: that
+-- position has one already. 13: d is none of the four directions. Then 19.
+abbrev pub mark-path : ℕ → ℕ → ℕ → ℕ → ℕ → ℕ → ℕ → ℕ → List ℕ → Step × List ℕ
+mark-path n m at before x y d next directions =
     cond (inner-at n m x y)
     (cond (eqb (getD directions (position x y) 0) 0)
-    (cond (leb 1 d && leb d 4) (step.Next next, set directions (position x y) d) (no-record 13 at directions))
+    (cond (leb 1 d && leb d 4) (mark-in-order at before (position x y) d next directions) (no-record 13 at directions))
     (no-record 11 at directions))
     (no-record 10 at directions)
 
--- the record at an offset, judged once all its numbers are read
-unfoldable pub record-at : Kind → List ℕ → ℕ → ℕ → ℕ → List ℕ → Step × List ℕ
-record-at Map s n m at grid =
+-- the record at an offset, judged once all its numbers are read; `before` is the position of the record before it, or 0
+unfoldable pub record-at : Kind → List ℕ → ℕ → ℕ → ℕ → ℕ → List ℕ → Step × List ℕ
+record-at Map s n m at before grid =
     read-or (number-at s at)
     (λ x a.
     read-or (number-at s a)
-    (λ y next. mark-fault n m at x y next grid)
+    (λ y next. mark-fault n m at before x y next grid)
     (λ r. (step.Refused r, grid)))
     (λ r. (step.Refused r, grid))
-record-at Plan s n m at directions =
+record-at Plan s n m at before directions =
     read-or (number-at s at)
     (λ x a.
     read-or (number-at s a)
     (λ y b.
     read-or (number-at s b)
-    (λ d next. mark-path n m at x y d next directions)
+    (λ d next. mark-path n m at before x y d next directions)
     (λ r. (step.Refused r, directions)))
     (λ r. (step.Refused r, directions)))
     (λ r. (step.Refused r, directions))
 
--- a record's answer with the buffer being filled, and what follows it
-abbrev pub and-then : Step × List ℕ → (ℕ → List ℕ → Step × List ℕ) → Step × List ℕ
-and-then (step.Next at, b) f = f at b
+-- a record's answer with the buffer being filled, and what follows it, given the next offset and the record's position
+abbrev pub and-then : Step × List ℕ → (ℕ → ℕ → List ℕ → Step × List ℕ) → Step × List ℕ
+and-then (step.Next at p, b) f = f at p b
 and-then (step.Refused r, b) f = (step.Refused r, b)
 
--- k records from an offset on
-unfoldable pub records-at : Kind → List ℕ → ℕ → ℕ → ℕ → ℕ → List ℕ → Step × List ℕ
-records-at kind s n m zero at b = (step.Next at, b)
-records-at kind s n m (suc k) at b = and-then (record-at kind s n m at b) (λ next c. records-at kind s n m k next c)
+-- k records from an offset on, after a record of position `before`
+unfoldable pub records-at : Kind → List ℕ → ℕ → ℕ → ℕ → ℕ → ℕ → List ℕ → Step × List ℕ
+records-at kind s n m zero at before b = (step.Next at before, b)
+records-at kind s n m (suc k) at before b =
+    and-then (record-at kind s n m at before b) (λ next p c. records-at kind s n m k next p c)
 
 -- 12: the file goes on after its last record, from the place on. A refusal leaves the lent buffer as it was.
 abbrev pub whole-file : List ℕ → Head → List ℕ → Step × List ℕ → FileRead × List ℕ
-whole-file s head lent (step.Next at, b) = cond (ltb at (length s)) (Refused (refusal 12 at 0), lent) (File head, b)
+whole-file s head lent (step.Next at p, b) = cond (ltb at (length s)) (Refused (refusal 12 at 0), lent) (File head, b)
 whole-file s head lent (step.Refused r, b) = (Refused r, lent)
+
+-- what follows N, M and the count: the records, into a blank buffer, then the end of the file
+abbrev pub body-at : Kind → List ℕ → Head → List ℕ → ℕ → FileRead × List ℕ
+body-at kind s head lent at =
+    whole-file s head lent
+    (records-at kind s (head .rows) (head .columns) (head .count) at 0 (blank kind (head .rows) (head .columns)))
 
 -- what a reader answers, with the lent buffer afterwards: 2 first, then the file in its own order
 unfoldable pub read-file : Kind → List ℕ → List ℕ → FileRead × List ℕ
@@ -89,7 +101,7 @@ read-file kind s lent =
     read-or (size-at s a)
     (λ m b.
     read-or (number-at s b)
-    (λ k c. whole-file s (record { rows = n; columns = m; count = k }) lent (records-at kind s n m k c (blank kind n m)))
+    (λ k c. body-at kind s (record { rows = n; columns = m; count = k }) lent c)
     (λ r. (Refused r, lent)))
     (λ r. (Refused r, lent)))
     (λ r. (Refused r, lent)))

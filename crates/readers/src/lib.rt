@@ -3,18 +3,19 @@ use array::Refusal;
 use formats::Kind;
 use formats::Number;
 ghost use mathlib.Core.Path.{_≡_};
-ghost use Prim.Native.Nat.{_≤_, _<_};
+ghost use Prim.Native.Nat.{ℕ, _≤_, _<_};
 ghost use Rattle.array.specs.Place.{position};
+ghost use Rattle.array.specs.Tests.{refusal};
 ghost use lib.ListN.{length};
 ghost use Rattle.formats.specs.Number.{size-at};
 ghost use Rattle.formats.specs.Records.{blank};
-ghost use Rattle.readers.specs.Reading.{told, record-at, records-at, whole-file, read-file, read-map, read-plan};
+ghost use Rattle.readers.specs.Reading.{told, record-at, records-at, whole-file, body-at, read-file, read-map, read-plan};
 ghost use Rattle.readers.specs.Parts.{blank-mark, stands-at, value-at, is-value, marked};
-ghost use Rattle.readers.specs.declared.Step.the-variants.{Next};
+ghost use Rattle.readers.specs.declared.Step.the-variants.{Next, Refused};
 
-// What reading a record gives: the offset after it, or the refusal.
+// What reading a record gives: the offset after it and its position, or the refusal.
 pub enum Step {
-    Next(usize),
+    Next(usize, usize),
     Refused(Refusal),
 }
 
@@ -112,12 +113,25 @@ fn may_write(kind: Kind, v: u32) -> bool
     }
 }
 
+// The refusal of the record at an offset.
+fn no_record(number: u8, at: usize) -> Step
+    ensures { λ r. ⌜ r ≡ Refused (refusal number at 0) ⌝ }
+{
+    Step::Refused(Refusal {
+        number,
+        place: at,
+        second: 0,
+    })
+}
+
 // Judges the record of row x and column y that starts at an offset and ends before `next`, and writes its value v.
+// The record before it has position `before`.
 fn mark_one(
     kind: Kind,
     n: usize,
     m: usize,
     at: usize,
+    before: usize,
     x: usize,
     y: usize,
     v: u32,
@@ -125,32 +139,25 @@ fn mark_one(
     b: &mut [u8],
 ) -> Step
     requires { ⌜ (n ≤ 30) × (m ≤ 30) × (length (now b) ≡ 1024) ⌝ }
-    ensures { λ r. ⌜ (r, now (b .exit)) ≡ marked kind n m at x y v next (now (b .entry)) ⌝ }
+    ensures { λ r. ⌜ (r, now (b .exit)) ≡ marked kind n m at before x y v next (now (b .entry)) ⌝ }
 {
     if !may_stand(kind, n, m, x, y) {
-        return Step::Refused(Refusal {
-            number: 10,
-            place: at,
-            second: 0,
-        });
+        return no_record(10, at);
     }
     let p = 32 * x + y;
-    if formats::is_recorded(kind, b[p]) {
-        return Step::Refused(Refusal {
-            number: 11,
-            place: at,
-            second: 0,
-        });
+    let repeated = formats::is_recorded(kind, b[p]);
+    let lower = p < before;
+    if repeated {
+        return no_record(11, at);
     }
     if !may_write(kind, v) {
-        return Step::Refused(Refusal {
-            number: 13,
-            place: at,
-            second: 0,
-        });
+        return no_record(13, at);
+    }
+    if lower {
+        return no_record(19, at);
     }
     b[p] = v as u8;
-    Step::Next(next)
+    Step::Next(next, p)
 }
 
 // The same; each kind has a call of its own, so that it is compiled by itself.
@@ -159,6 +166,7 @@ fn mark(
     n: usize,
     m: usize,
     at: usize,
+    before: usize,
     x: usize,
     y: usize,
     v: u32,
@@ -166,18 +174,26 @@ fn mark(
     b: &mut [u8],
 ) -> Step
     requires { ⌜ (n ≤ 30) × (m ≤ 30) × (length (now b) ≡ 1024) ⌝ }
-    ensures { λ r. ⌜ (r, now (b .exit)) ≡ marked kind n m at x y v next (now (b .entry)) ⌝ }
+    ensures { λ r. ⌜ (r, now (b .exit)) ≡ marked kind n m at before x y v next (now (b .entry)) ⌝ }
 {
     match kind {
-        Kind::Map => mark_one(Kind::Map, n, m, at, x, y, v, next, b),
-        Kind::Plan => mark_one(Kind::Plan, n, m, at, x, y, v, next, b),
+        Kind::Map => mark_one(Kind::Map, n, m, at, before, x, y, v, next, b),
+        Kind::Plan => mark_one(Kind::Plan, n, m, at, before, x, y, v, next, b),
     }
 }
 
-// Reads the record at an offset into a buffer.
-fn read_record(kind: Kind, s: &[u8], n: usize, m: usize, at: usize, b: &mut [u8]) -> Step
+// Reads the record at an offset into a buffer, after a record of position `before`.
+fn read_record(
+    kind: Kind,
+    s: &[u8],
+    n: usize,
+    m: usize,
+    at: usize,
+    before: usize,
+    b: &mut [u8],
+) -> Step
     requires { ⌜ (n ≤ 30) × (m ≤ 30) × (length (now b) ≡ 1024) ⌝ }
-    ensures { λ r. ⌜ (r, now (b .exit)) ≡ record-at kind (now (s .entry)) n m at (now (b .entry)) ⌝ }
+    ensures { λ r. ⌜ (r, now (b .exit)) ≡ record-at kind (now (s .entry)) n m at before (now (b .entry)) ⌝ }
 {
     let a = formats::read_number(s, at);
     let Number::Read(x, second) = a else {
@@ -191,10 +207,10 @@ fn read_record(kind: Kind, s: &[u8], n: usize, m: usize, at: usize, b: &mut [u8]
     let Number::Read(v, next) = e else {
         return Step::Refused(formats::refusal_of(e));
     };
-    mark(kind, n, m, at, x as usize, y as usize, v, next, b)
+    mark(kind, n, m, at, before, x as usize, y as usize, v, next, b)
 }
 
-// Reads records from an offset on into a buffer.
+// Reads records from an offset on into a buffer. Before the first stands position 0: no position is lower.
 fn read_records(
     kind: Kind,
     s: &[u8],
@@ -205,19 +221,21 @@ fn read_records(
     b: &mut [u8],
 ) -> Step
     requires { ⌜ (n ≤ 30) × (m ≤ 30) × (length (now b) ≡ 1024) ⌝ }
-    ensures { λ r. ⌜ (r, now (b .exit)) ≡ records-at kind (now (s .entry)) n m count start (now (b .entry)) ⌝ }
+    ensures { λ r. ⌜ (r, now (b .exit)) ≡ records-at kind (now (s .entry)) n m count start 0 (now (b .entry)) ⌝ }
 {
     let mut left = count;
     let mut at = start;
+    let mut before = 0;
     while 0 < left {
-        let a = read_record(kind, s, n, m, at, b);
-        let Step::Next(next) = a else {
+        let a = read_record(kind, s, n, m, at, before, b);
+        let Step::Next(next, p) = a else {
             return a;
         };
         at = next;
+        before = p;
         left -= 1;
     }
-    Step::Next(at)
+    Step::Next(at, before)
 }
 
 // Copies a whole buffer.
@@ -233,7 +251,7 @@ fn copy(to: &mut [u8], from: [u8; 1024])
 // Fills the lent buffer where the file ends with its last record.
 fn fill(s: &[u8], head: Head, end: usize, b: [u8; 1024], lent: &mut [u8]) -> FileRead
     requires { ⌜ length (now lent) ≡ 1024 ⌝ }
-    ensures { λ r. ⌜ (r, now (lent .exit)) ≡ whole-file (now (s .entry)) head (now (lent .entry)) (Next end, b) ⌝ }
+    ensures { λ r. ⌜ ((p : ℕ) → (r, now (lent .exit)) ≡ whole-file (now (s .entry)) head (now (lent .entry)) (Next end p, b)) ⌝ }
 {
     if end < s.len() {
         return FileRead::Refused(Refusal {
@@ -249,11 +267,11 @@ fn fill(s: &[u8], head: Head, end: usize, b: [u8; 1024], lent: &mut [u8]) -> Fil
 // Reads what follows the head of a file.
 fn read_body(kind: Kind, s: &[u8], head: Head, start: usize, lent: &mut [u8]) -> FileRead
     requires { ⌜ (head .rows ≤ 30) × (head .columns ≤ 30) × (length (now lent) ≡ 1024) ⌝ }
-    ensures { λ r. ⌜ (r, now (lent .exit)) ≡ whole-file (now (s .entry)) head (now (lent .entry)) (records-at kind (now (s .entry)) (head .rows) (head .columns) (head .count) start (blank kind (head .rows) (head .columns))) ⌝ }
+    ensures { λ r. ⌜ (r, now (lent .exit)) ≡ body-at kind (now (s .entry)) head (now (lent .entry)) start ⌝ }
 {
     let mut b = blank_buffer(kind, head.rows, head.columns);
     match read_records(kind, s, head.rows, head.columns, head.count, start, &mut b) {
-        Step::Next(end) => fill(s, head, end, b, lent),
+        Step::Next(end, _) => fill(s, head, end, b, lent),
         Step::Refused(r) => FileRead::Refused(r),
     }
 }

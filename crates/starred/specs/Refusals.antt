@@ -40,6 +40,15 @@ pub record File-refusals : Type 0 where
   pub no-alias : Map-refused (2 ∷ 2 ∷ 1 ∷ 0 ∷ 33 ∷ []) 10 3
   pub repeated : Map-refused (2 ∷ 2 ∷ 2 ∷ 1 ∷ 1 ∷ 1 ∷ 1 ∷ []) 11 5
   pub byte-after : Map-refused (2 ∷ 2 ∷ 0 ∷ 7 ∷ []) 12 3
+  -- 19: (1, 1) after (2, 1), of a map and of a plan; a third record that is lower than the second, though not than the first
+  pub lower : Map-refused (2 ∷ 2 ∷ 2 ∷ 2 ∷ 1 ∷ 1 ∷ 1 ∷ []) 19 5
+  pub lower-path : Plan-refused (2 ∷ 2 ∷ 2 ∷ 2 ∷ 1 ∷ 1 ∷ 1 ∷ 1 ∷ 1 ∷ []) 19 6
+  pub lower-third : Map-refused (2 ∷ 2 ∷ 3 ∷ 1 ∷ 0 ∷ 2 ∷ 1 ∷ 1 ∷ 1 ∷ []) 19 7
+  -- a lower one that is cut, that is at no processor, that repeats the first, that has direction 5
+  pub lower-cut : Map-refused (2 ∷ 2 ∷ 2 ∷ 2 ∷ 1 ∷ 1 ∷ []) 8 6
+  pub lower-outside : Map-refused (2 ∷ 2 ∷ 2 ∷ 2 ∷ 1 ∷ 0 ∷ 0 ∷ []) 10 5
+  pub lower-repeated : Map-refused (2 ∷ 2 ∷ 3 ∷ 1 ∷ 1 ∷ 2 ∷ 1 ∷ 1 ∷ 1 ∷ []) 11 7
+  pub lower-directed : Plan-refused (2 ∷ 2 ∷ 2 ∷ 2 ∷ 1 ∷ 1 ∷ 1 ∷ 1 ∷ 5 ∷ []) 13 6
   -- a path that starts at a spare; a repeat; direction 5; a repeat before direction 5
   pub spare-start : Plan-refused (2 ∷ 2 ∷ 1 ∷ 0 ∷ 1 ∷ 1 ∷ []) 10 3
   pub path-repeated : Plan-refused (2 ∷ 2 ∷ 2 ∷ 1 ∷ 1 ∷ 1 ∷ 1 ∷ 1 ∷ 5 ∷ []) 11 6

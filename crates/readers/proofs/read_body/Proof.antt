@@ -36,7 +36,7 @@ returns : tie.Need-returns
 returns c =
     let a = c .before .before .before .before .before .before .before .before .before .before .before .before .before .args in
     let r = c .before .before .before .before .before .before .before .before in
-    c .before .before .fill .ensures
+    c .before .before .fill .ensures (c .before .before .before .before .before .end .given .0 .1 .0)
     ∙ ap (λ (x : Step × List ℕ). whole-file (now (a .s)) (a .head) (now (a .lent)) x)
     (rw (c .before .before .before .before .before .end .given .1, r .before .before .blank-buffer .ensures) at (r .read-records .ensures))
 

@@ -45,7 +45,7 @@ refusal-of-requires c κs = search needs
 returns : tie.Need-returns
 returns c =
     rw (c .refusal-of .ensures, c .before .enum-told .given .1)
-    (sym (no-row _ _ _ _ _ _ _ (sym (number-kept _ _ (c .before .before .before .read-number .ensures)) ∙ c .before .enum-told .given .1)))
+    (sym (no-row _ _ _ _ _ _ _ _ (sym (number-kept _ _ (c .before .before .before .read-number .ensures)) ∙ c .before .enum-told .given .1)))
 
 read-number-requires-2 : tie.Need-read-number-requires-2
 read-number-requires-2 c κs = search needs
@@ -64,7 +64,7 @@ returns-2 c =
     let a = c .before .before .before .before .before in
     rw (c .refusal-of2 .ensures, c .before .enum-told2 .given .1)
     (sym
-    (no-column _ _ _ _ _ _ _ (row-is a) _ _
+    (no-column _ _ _ _ _ _ _ _ (row-is a) _ _
     (sym (number-kept _ _ (c .before .before .before .read-number2 .ensures)) ∙ c .before .enum-told2 .given .1)))
 
 read-value-requires : tie.Need-read-value-requires
@@ -84,7 +84,7 @@ returns-3 c =
     let d = c .before .before .before .before .before in
     rw (c .refusal-of3 .ensures, c .before .enum-told3 .given .1)
     (sym
-    (no-value _ _ _ _ _ _ _ (row-is (d .before .before .before .before)) _ _ (column-is d) _ _
+    (no-value _ _ _ _ _ _ _ _ (row-is (d .before .before .before .before)) _ _ (column-is d) _ _
     (sym (c .before .before .before .read-value .ensures) ∙ c .before .enum-told3 .given .1)))
 
 cast-mark : tie.Need-cast-mark
@@ -106,7 +106,7 @@ returns-4 c =
     let a = d .before .before .before .before in
     let p = a .before .before .before .before .before .pre in
     c .before .before .mark .ensures
-    ∙ sym (record-marked _ _ _ _ _ _ _ (row-is a) _ _ (column-is d) (p .0, p .1) (p .2) _ _ _ (value-is e))
+    ∙ sym (record-marked _ _ _ _ _ _ _ _ (row-is a) _ _ (column-is d) (p .0, p .1) (p .2) _ _ _ (value-is e))
 
 pub read-record-spec : {M : Type 1} → statement M
 read-record-spec =

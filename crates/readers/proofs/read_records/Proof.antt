@@ -10,11 +10,11 @@ use Rattle.readers.proofs.read_records.Statement.{statement}
 use Rattle.readers.proofs.read_records.Tie as tie
 
 abbrev Inv-loop : tie.InvT-loop
-Inv-loop kind s n m count start b₀ left₀ at₀ b left at =
-    (length b ≡ 1024) × (records-at kind s n m count start b₀ ≡ records-at kind s n m left at b)
+Inv-loop kind s n m count start b₀ left₀ at₀ before₀ b left at before =
+    (length b ≡ 1024) × (records-at kind s n m count start 0 b₀ ≡ records-at kind s n m left at before b)
 
 abbrev μ-loop : tie.MeasureT-loop
-μ-loop kind s n m count start b₀ left₀ at₀ b left at = left
+μ-loop kind s n m count start b₀ left₀ at₀ before₀ b left at before = left
 
 loop-holds : tie.Need-loop-holds Inv-loop μ-loop
 loop-holds c = (omega arith, refl)
@@ -35,7 +35,7 @@ returns : tie.Need-returns Inv-loop μ-loop
 returns c = rw (c .enum-told .given .1)
     (sym
     (c .before .before .before .before .before .before .before .loop .inv .1
-    ∙ stop _ _ _ _ _ _ _ (c .before .before .before .before .before .before .loop-test .taken) _ _
+    ∙ stop _ _ _ _ _ _ _ _ (c .before .before .before .before .before .before .loop-test .taken) _ _
     (sym (rw (c .enum-told .given .1) at (c .before .before .before .before .read-record .ensures)))))
 
 sub-left : tie.Need-sub-left Inv-loop μ-loop
@@ -47,8 +47,8 @@ loop-less c = omega arith
 loop-again : tie.Need-loop-again Inv-loop μ-loop
 loop-again c = (
   omega arith,
-  c .before .before .before .before .before .before .before .before .loop .inv .1 ∙ more _ _ _ _ _ _ _
-      (c .before .before .before .before .before .before .before .loop-test .taken) _ _
+  c .before .before .before .before .before .before .before .before .loop .inv .1 ∙ more _ _ _ _ _ _ _ _
+      (c .before .before .before .before .before .before .before .loop-test .taken) _ _ _
       (sym (rw (c .before .a .given .1) at (c .before .before .before .before .before .read-record .ensures))),
 )
 
@@ -58,7 +58,7 @@ same-length-2 c = search needs
 returns-2 : tie.Need-returns-2 Inv-loop μ-loop
 returns-2 c =
     let z : c .before .loop .left ≡ 0 = omega arith in
-    sym (c .before .loop .inv .1 ∙ rw z (none-left _ _ _ _ _ _))
+    sym (c .before .loop .inv .1 ∙ rw z (none-left _ _ _ _ _ _ _))
 
 pub read-records-spec : {M : Type 1} → statement M
 read-records-spec =
