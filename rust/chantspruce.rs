@@ -314,12 +314,14 @@ pub fn read_number(file: &[u8], at: usize) -> Result<Number, Refusal> {
     flat::read_number(file, at).answer()
 }
 
-/// Reads a map file and fills `grid`. Refusals: 1, 2, 8 to 12 and 19.
+/// Reads a map file and fills `grid`. A file that is read is byte for byte what [`write_map`] writes of it again. Refusals: 1, 2, 8 to 12
+/// and 19.
 pub fn read_map(file: &[u8], grid: &mut [u8]) -> Result<Head, Refusal> {
     flat::read_map(file, grid).answer()
 }
 
-/// Reads a plan file and fills `directions`. Refusals: 1, 2, 8 to 13 and 19.
+/// Reads a plan file and fills `directions`. A file that is read is byte for byte what [`write_plan`] writes of it again. Refusals: 1, 2, 8 to
+/// 13 and 19.
 pub fn read_plan(file: &[u8], directions: &mut [u8]) -> Result<Head, Refusal> {
     flat::read_plan(file, directions).answer()
 }

@@ -8,10 +8,9 @@ use native.Mathlib.Nat.{le-of-suc-le-suc, not-suc-le-zero, add-zero, zero-add}
 use native.Mathlib.Omega.{arith}
 use lib.ListN.{length, getD, set, drop, drop-of-length-le}
 use lib.Seq.{getD-set-other}
-use Rattle.array.specs.Place.{row, column, size}
-use Rattle.array.proofs.Bools.{by-bool, by-eq, and-both}
-use Rattle.array.proofs.Places.{sized}
-use Rattle.formats.specs.Number.{Bytes, number-at, bytes-of}
+use Rattle.array.specs.Place.{row, column}
+use Rattle.array.proofs.Bools.{by-bool, by-eq}
+use Rattle.formats.specs.Number.{Bytes, bytes-of}
 use Rattle.formats.specs.Records.{recorded, record-bytes, records-along, record-count, file-bytes, blank}
 use Rattle.formats.specs.declared.Number.the-variants.{Read}
 use Rattle.formats.specs.declared.Kind.{Kind}
@@ -22,7 +21,7 @@ use Rattle.readers.specs.Parts.{value-at}
 use Rattle.readers.specs.declared.Head.{Head}
 use Rattle.readers.specs.declared.FileRead.the-variants.{File}
 use Rattle.readers.proofs.Cases.{blank-length, blank-at, size-number, head-read, whole-read}
-use Rattle.readers.proofs.Taken.{Taken, File-taken, file-taken, records-keep}
+use Rattle.readers.proofs.Taken.{Taken, File-taken, file-taken, file-keeps}
 use Rattle.writers.specs.Parts.{pair-bytes, value-bytes, records-of}
 use Rattle.writers.proofs.Accepted.{file-accepted, put-whole}
 use Rattle.writers.proofs.Records.{record-is}
@@ -151,20 +150,11 @@ module _ (kind : Kind) (s lent b : List ℕ) (head : Head) (bytes : Bytes s) (q 
   taken : File-taken kind s b head
   taken = file-taken kind s lent b head q
 
-  rows : (number-at s 0 ≡ Read n (taken .second)) × (size n ≡ true)
-  rows = size-number s 0 n (taken .second) (taken .rows-read)
-
-  columns : (number-at s (taken .second) ≡ Read m (taken .third)) × (size m ≡ true)
-  columns = size-number s (taken .second) m (taken .third) (taken .columns-read)
-
   records : records-of kind b ≡ drop (taken .start) s
   records =
-      let z = sized n m (and-both _ _ (rows .1) (columns .1)) in
       let h =
-      records-keep kind s n m (z .rows-high, z .columns-high) (λ k at before b. Standing kind s bytes n m (taken .start) at before b)
-      (λ k at before b next p c w g t. next-standing kind s bytes n m (taken .start) at before b next p c w g t)
-      (head .count) 0 (taken .start) 0 (taken .end) (taken .last) (blank kind n m) b (blank-length kind n m)
-      (blank-standing kind s bytes n m (taken .start)) (taken .records-read) in
+      file-keeps kind s b head taken (λ k at before c. Standing kind s bytes n m (taken .start) at before c)
+      (λ k. next-standing kind s bytes n m (taken .start)) (blank-standing kind s bytes n m (taken .start)) in
       sym (append-nil (records-of kind b))
       ∙ ap (λ (l : List ℕ). records-of kind b ++ l) (sym (drop-of-length-le s (taken .ends)))
       ∙ h .1 .so-far
@@ -174,11 +164,11 @@ module _ (kind : Kind) (s lent b : List ℕ) (head : Head) (bytes : Bytes s) (q 
   own-bytes =
       let c = sound-reading kind s lent b head q .counted in
       sym
-      (number-stands s bytes 0 n (taken .second) (rows .0)
+      (number-stands s bytes 0 n _ (size-number s 0 n _ (taken .rows-read) .0)
       ∙ ap (λ (l : List ℕ). bytes-of n ++ l)
-      (number-stands s bytes (taken .second) m (taken .third) (columns .0)
+      (number-stands s bytes _ m _ (size-number s _ m _ (taken .columns-read) .0)
       ∙ ap (λ (l : List ℕ). bytes-of m ++ l)
-      (number-stands s bytes (taken .third) (head .count) (taken .start) (taken .count-read)
+      (number-stands s bytes _ (head .count) _ (taken .count-read)
       ∙ ap (λ (k : ℕ). bytes-of k ++ drop (taken .start) s) (sym c)
       ∙ ap (λ (l : List ℕ). bytes-of (record-count kind b) ++ l) (sym records))))
 

@@ -16,14 +16,13 @@ use Rattle.array.specs.Map.{allowed}
 use Rattle.array.specs.declared.Verdict.the-variants.{Accepted}
 use Rattle.array.proofs.Bools.{by-bool, by-eq, and-both, and-none, cond-taken}
 use Rattle.array.proofs.Verdicts.{false-accepted, accept-both}
-use Rattle.array.proofs.Places.{sized}
 use Rattle.array.proofs.Scans.{buffer-scan, scan-all}
 use Rattle.formats.specs.Records.{recorded, record-count, blank}
 use Rattle.formats.specs.declared.Kind.{Kind}
 use Rattle.formats.specs.declared.Kind.the-variants.{Map, Plan}
 use Rattle.readers.specs.Parts.{blank-mark, stands-at, is-value}
-use Rattle.readers.proofs.Cases.{blank-is, blank-length, blank-at, size-number, value-low}
-use Rattle.readers.proofs.Taken.{file-taken, records-keep}
+use Rattle.readers.proofs.Cases.{blank-is, blank-at, value-low}
+use Rattle.readers.proofs.Taken.{file-taken, sizes-taken, file-keeps}
 use Rattle.writers.specs.Writing.{buffer-test}
 use Rattle.writers.proofs.Accepted.{element-test, tests-are}
 use Rattle.files.specs.Sound.{Sound-reading}
@@ -125,12 +124,12 @@ sound-reading kind s lent b head q =
     let f = file-taken kind s lent b head q in
     let n : ℕ = head .rows in
     let m : ℕ = head .columns in
-    let z : (size n && size m) ≡ true =
-    and-both _ _ (size-number s 0 n _ (f .rows-read) .1) (size-number s _ m _ (f .columns-read) .1) in
-    let r = sized n m z in
     let h =
-    records-keep kind s n m (r .rows-high, r .columns-high) (λ k at before b. Held kind n m k b)
-    (λ k at before b next p c w g t.
-    rw (t .stored) at (set-held kind n m k p (t .v) b w g (t .low) (t .stands) (t .free) (t .value)))
-    (head .count) 0 (f .start) 0 (f .end) (f .last) (blank kind n m) b (blank-length kind n m) (blank-held kind n m) (f .records-read) in
-    record { fit = held-fit kind n m b _ z (h .0) (h .1); counted = h .1 .counted ∙ zero-add (head .count) }
+    file-keeps kind s b head f (λ k at before c. Held kind n m k c)
+    (λ k at before c next p d w g t.
+    rw (t .stored) at (set-held kind n m k p (t .v) c w g (t .low) (t .stands) (t .free) (t .value)))
+    (blank-held kind n m) in
+    record {
+      fit = held-fit kind n m b _ (sizes-taken kind s b head f) (h .0) (h .1);
+      counted = h .1 .counted ∙ zero-add (head .count);
+    }

@@ -2,13 +2,14 @@
 -- Assumes nothing.
 use Prim.Native.Nat.{ℕ, zero, suc, _+_, _<_, _≤_}
 use mathlib.Core.Path.{_≡_, refl, sym, ap, _∙_}
-use mathlib.Core.Bool.{true, false}
+use mathlib.Core.Bool.{true, false, _&&_}
 use mathlib.Core.List.{List}
 use native.Mathlib.Omega.{arith}
 use lib.ListN.{length, getD, set, length-set}
-use Rattle.array.specs.Place.{row, column, position}
+use Rattle.array.specs.Place.{row, column, position, size}
 use Rattle.array.specs.declared.Refusal.{Refusal}
-use Rattle.array.proofs.Bools.{by-bool, by-eq, by-lt, cond-taken, cond-left}
+use Rattle.array.proofs.Bools.{by-bool, by-eq, by-lt, and-both, cond-taken, cond-left}
+use Rattle.array.proofs.Places.{sized}
 use Rattle.formats.specs.Number.{number-at, size-at}
 use Rattle.formats.specs.Records.{recorded, blank}
 use Rattle.formats.specs.declared.Number.{Number}
@@ -21,7 +22,7 @@ use Rattle.readers.specs.declared.Head.{Head}
 use Rattle.readers.specs.declared.FileRead.{FileRead}
 use Rattle.readers.specs.declared.Step.the-variants as step
 use Rattle.readers.specs.declared.FileRead.the-variants as file
-use Rattle.readers.proofs.Cases.{stands-within, marked-in-order, in-order, out-of-order, no-row, no-column, no-value, record-marked, more-suc, stop-suc, none-left, whole-refused, whole-more, whole-read, file-short, no-rows, no-columns, no-count, head-read}
+use Rattle.readers.proofs.Cases.{blank-length, size-number, stands-within, marked-in-order, in-order, out-of-order, no-row, no-column, no-value, record-marked, more-suc, stop-suc, none-left, whole-refused, whole-more, whole-read, file-short, no-rows, no-columns, no-count, head-read}
 
 -- a record at an offset that is taken for position p, into the buffer b, which becomes c: its numbers, and what its tests found
 pub record Taken (kind : Kind) (s : List ℕ) (n m at before : ℕ) (b : List ℕ) (next p : ℕ) (c : List ℕ) : Type 0 where
@@ -115,7 +116,7 @@ module _ (kind : Kind) (s : List ℕ) (n m : ℕ) (small : (n ≤ 30) × (m ≤ 
   module _ (P : ℕ → ℕ → ℕ → List ℕ → Type 0)
       (keeps : (k at before : ℕ) (b : List ℕ) (next p : ℕ) (c : List ℕ) → length b ≡ 1024 → P k at before b
       → Taken kind s n m at before b next p c → P (suc k) next p c) where
-    pub records-keep :
+    records-keep :
         (k j at before end last : ℕ) (b c : List ℕ) →
         length b ≡ 1024 →
         P j at before b →
@@ -215,3 +216,20 @@ module _ (kind : Kind) (s lent b : List ℕ) (head : Head) (q : read-file kind s
 
   pub file-taken : F
   file-taken = by-eq (length lent) 1024 (λ w. by-rows w (size-at s 0) refl) (λ w. refused (file-short kind s lent w))
+
+-- N and M of such a file, and what holds of its buffer since it holds of a blank one and each record keeps it
+module _ (kind : Kind) (s b : List ℕ) (head : Head) (f : File-taken kind s b head) where
+  pub sizes-taken : (size (head .rows) && size (head .columns)) ≡ true
+  sizes-taken =
+      and-both _ _ (size-number s 0 (head .rows) _ (f .rows-read) .1) (size-number s _ (head .columns) _ (f .columns-read) .1)
+
+  pub file-keeps :
+      (P : ℕ → ℕ → ℕ → List ℕ → Type 0) →
+      ((k at before : ℕ) (c : List ℕ) (next p : ℕ) (d : List ℕ) → length c ≡ 1024 → P k at before c
+      → Taken kind s (head .rows) (head .columns) at before c next p d → P (suc k) next p d) →
+      P 0 (f .start) 0 (blank kind (head .rows) (head .columns)) →
+      (length b ≡ 1024) × P (0 + head .count) (f .end) (f .last) b
+  file-keeps P keeps first =
+      let z = sized (head .rows) (head .columns) sizes-taken in
+      records-keep kind s (head .rows) (head .columns) (z .rows-high, z .columns-high) P keeps (head .count) 0 (f .start) 0 (f .end) (f .last)
+      (blank kind (head .rows) (head .columns)) b (blank-length kind (head .rows) (head .columns)) first (f .records-read)
