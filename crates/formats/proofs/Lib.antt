@@ -1,5 +1,6 @@
 pub mod Cases
 pub mod Answers
 pub mod Trip
+pub mod Records
 pub mod Stands
 pub mod Numbered
