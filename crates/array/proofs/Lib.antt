@@ -1,4 +1,5 @@
 pub mod Bools
+pub mod Below
 pub mod Places
 pub mod Verdicts
 pub mod Scans

@@ -5,7 +5,7 @@ use mathlib.Core.Bool.{Bool, cond, not, _&&_}
 use mathlib.Core.List.{List, [], _∷_}
 use lib.Dec.{leb, eqb}
 use lib.ListN.{getD}
-use Rattle.array.specs.Place.{size, inner, processor}
+use Rattle.array.specs.Place.{size, row, column, inner, processor-at}
 use Rattle.array.specs.Tests.{or-else, refuse-if, first-in}
 use Rattle.array.specs.Buffer.{all-long}
 use Rattle.array.specs.declared.Verdict.{Verdict}
@@ -25,8 +25,11 @@ abbrev pub faulty : List ℕ → ℕ → Bool
 faulty grid p = faulty-mark (mark-at grid p)
 
 -- the marks that a position allows: 0 or 1 at a processor, 2 elsewhere
+abbrev pub allowed-at : ℕ → ℕ → ℕ → ℕ → ℕ → Bool
+allowed-at n m x y mark = cond (processor-at n m x y) (leb mark 1) (eqb mark 2)
+
 abbrev pub allowed : ℕ → ℕ → ℕ → ℕ → Bool
-allowed n m p mark = cond (processor n m p) (leb mark 1) (eqb mark 2)
+allowed n m p mark = allowed-at n m (row p) (column p) mark
 
 -- 1: N or M is no size; place 0
 abbrev pub size-test : ℕ → ℕ → Verdict

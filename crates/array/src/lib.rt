@@ -4,7 +4,7 @@ ghost use mathlib.Core.Bool.{true};
 ghost use Prim.Native.Nat.{_≤_, _<_};
 ghost use lib.ListN.{length};
 ghost use Rattle.array.specs.Place.{size, inner-at, corner-at, processor-at, inner, processor};
-ghost use Rattle.array.specs.Map.{faulty-mark, inner-faulty, allowed, marks-test, map-tests};
+ghost use Rattle.array.specs.Map.{faulty-mark, inner-faulty, allowed-at, marks-test, map-tests};
 
 // The refusal of a call: the documents' number, the place and the second place.
 pub struct Refusal {
@@ -62,15 +62,22 @@ pub fn is_inner(n: usize, m: usize, p: usize) -> bool
     is_inner_at(n, m, p / 32, p % 32)
 }
 
+// The same as is_processor_at, asked in the order that is quicker where most positions are inner.
+fn is_processor_inner_first(n: usize, m: usize, x: usize, y: usize) -> bool
+    requires { ⌜ (n ≤ 30) × (m ≤ 30) ⌝ }
+    ensures { λ r. ⌜ r ≡ processor-at n m x y ⌝ }
+{
+    if is_inner_at(n, m, x, y) {
+        return true;
+    }
+    is_processor_at(n, m, x, y)
+}
+
 pub fn is_processor(n: usize, m: usize, p: usize) -> bool
     requires { ⌜ (n ≤ 30) × (m ≤ 30) ⌝ }
     ensures { λ r. ⌜ r ≡ processor n m p ⌝ }
 {
-    // most positions are inner, and that is the shorter test
-    if is_inner(n, m, p) {
-        return true;
-    }
-    is_processor_at(n, m, p / 32, p % 32)
+    is_processor_inner_first(n, m, p / 32, p % 32)
 }
 
 // Whether a mark counts as faulty.
@@ -87,29 +94,32 @@ pub fn is_inner_fault(n: usize, m: usize, p: usize, mark: u8) -> bool
     is_inner(n, m, p) & is_faulty(mark)
 }
 
-fn is_allowed(n: usize, m: usize, p: usize, mark: u8) -> bool
+fn is_allowed(n: usize, m: usize, x: usize, y: usize, mark: u8) -> bool
     requires { ⌜ (n ≤ 30) × (m ≤ 30) ⌝ }
-    ensures { λ r. ⌜ r ≡ allowed n m p mark ⌝ }
+    ensures { λ r. ⌜ r ≡ allowed-at n m x y mark ⌝ }
 {
-    if is_processor(n, m, p) {
+    if is_processor_inner_first(n, m, x, y) {
         mark <= 1
     } else {
         mark == 2
     }
 }
 
-// Test 3.
+// Test 3, row by row, so that the compiler can test once for a row what depends on the row alone.
 fn check_marks(n: usize, m: usize, grid: &[u8]) -> Verdict
     requires { ⌜ (n ≤ 30) × (m ≤ 30) × (length (now grid) ≡ 1024) ⌝ }
     ensures { λ r. ⌜ r ≡ marks-test n m (now (grid .entry)) ⌝ }
 {
-    for p in 0..1024 {
-        if !is_allowed(n, m, p, grid[p]) {
-            return Verdict::Refused(Refusal {
-                number: 3,
-                place: p,
-                second: 0,
-            });
+    for x in 0..32 {
+        for y in 0..32 {
+            let p = 32 * x + y;
+            if !is_allowed(n, m, x, y, grid[p]) {
+                return Verdict::Refused(Refusal {
+                    number: 3,
+                    place: p,
+                    second: 0,
+                });
+            }
         }
     }
     Verdict::Accepted

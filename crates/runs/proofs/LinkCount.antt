@@ -11,7 +11,8 @@ use lib.Dec.{ltb, leb, eqb}
 use lib.ListN.{length}
 use Rattle.array.specs.Place.{row, column}
 use Rattle.array.specs.Buffer.{positions-along, positions-in}
-use Rattle.array.proofs.Bools.{and-true, by-bool, by-eq}
+use Rattle.array.proofs.Below.{all-below, passes-below}
+use Rattle.array.proofs.Bools.{and-true, by-bool}
 use Rattle.runs.specs.Run.{has-neighbour}
 
 -- how many of i, i + 1, .. of k numbers pass a test
@@ -97,18 +98,6 @@ module _ (t r q : ℕ → Bool) (apart : (x y : ℕ) → y < 32 → t (32 * x + 
       ∙ ap (λ (z : ℕ). z * count q 0 32) one-more
       ∙ ap (λ (z : ℕ). count r 0 z * count q 0 32) (sym b)
 
--- numbers below a bound that all pass a test
-unfoldable all-below : ℕ → (ℕ → Bool) → Bool
-all-below zero t = true
-all-below (suc k) t = t k && all-below k t
-
-each-below : (k : ℕ) (t : ℕ → Bool) → all-below k t ≡ true → (i : ℕ) → i < k → t i ≡ true
-unfolding all-below
-each-below zero t h i l = absurd (omega (arith, l))
-each-below (suc k) t h i l =
-    let a = and-true (t k) _ h in
-    by-eq i k (λ e. rw e (a .0)) (λ e. each-below k t (a .1) i (omega arith))
-
 -- 1 to k, and 1 to k - 1
 abbrev up-to : ℕ → ℕ → Bool
 up-to k i = leb 1 i && leb i k
@@ -119,13 +108,13 @@ before k i = up-to k i && ltb i k
 abbrev ranges-right : ℕ → Bool
 ranges-right k = eqb (count (up-to k) 0 32) k && eqb (count (before k) 0 32) (k - 1)
 
-ranges : all-below 31 ranges-right ≡ true
-unfolding all-below count
+ranges : all-below ranges-right 31 ≡ true
+unfolding count
 ranges = refl
 
 range-of : (k : ℕ) → k ≤ 30 → (count (up-to k) 0 32 ≡ k) × (count (before k) 0 32 ≡ k - 1)
 range-of k h =
-    let a = and-true (eqb (count (up-to k) 0 32) k) _ (each-below 31 ranges-right ranges k (omega arith)) in
+    let a = and-true (eqb (count (up-to k) 0 32) k) _ (passes-below ranges-right 31 k ranges (omega arith)) in
     (eqb-true _ _ (a .0), eqb-true _ _ (a .1))
 
 -- the tests of a link to the right and of a link to the lower neighbour
