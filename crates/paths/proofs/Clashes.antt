@@ -7,9 +7,7 @@ use Prim.Native.Nat.{ℕ}
 use native.Mathlib.Omega.{arith}
 use Rattle.array.specs.declared.Verdict.the-variants.{Accepted}
 use Rattle.array.proofs.Bools.{bool-ext}
-use Rattle.paths.specs.Path.{path, meet, south-north, east-west, near-miss, clash, is-clear, clear, refuse-clash, pair-test}
-use Rattle.paths.specs.declared.Clash.{Clash}
-use Rattle.paths.specs.declared.Clash.the-variants.{Clear, Meet, NearMiss}
+use Rattle.paths.specs.Path.{Clash, Clear, Meet, NearMiss, path, meet, south-north, east-west, near-miss, clash, is-clear, clear, refuse-clash, pair-test}
 use Rattle.paths.proofs.Meeting.{share-elim, share-intro}
 
 -- the clash by the two tests

@@ -1,8 +1,11 @@
-pub mod Apart
 pub mod Ways
 pub mod Walking
 pub mod Meeting
+pub mod Classes
+pub mod Entries
+pub mod Agreement
 pub mod Clashes
 pub mod Opens
+pub mod South
 pub mod Directions
 pub mod Numbered

@@ -1,20 +1,19 @@
 -- A position lies on a path exactly when its row and its column are among those that the path takes up, and two paths share a processor
 -- exactly when these overlap. Assumes nothing.
 use mathlib.Core.Path.{_≡_, refl, ap, subst}
-use mathlib.Core.Bool.{true, false≢true}
+use mathlib.Core.Bool.{Bool, true, cond, _&&_, false≢true}
 use mathlib.Core.List.{List, [], _∷_}
 use mathlib.Core.Logic.{⊎-elim}
 use Prim.Native.Nat.{ℕ, zero, suc, _+_, _-_, _*_, _<_, _≤_, max}
 use native.Mathlib.Nat.{max-le, le-max-left, le-max-right}
 use native.Mathlib.Omega.{arith}
 use borrow.Author.Tests.{eqb-true, eq-eqb, leb-true, le-leb}
-use lib.Dec.{eqb}
+use lib.Dec.{leb, eqb}
 use Rattle.array.specs.Place.{row, column}
 use Rattle.array.specs.Buffer.{span}
 use Rattle.array.proofs.Places.{Inner}
 use Rattle.array.proofs.Bools.{and-true, or-true, or-left, or-right, bool-ext, by-lt}
 use Rattle.paths.specs.Path.{member, share, ahead, path-length, path, meet}
-use Rattle.paths.specs.Extent.{top, bottom, west-end, east-end, overlap}
 use Rattle.paths.proofs.Ways.{Way, south, north, east, west}
 
 -- q is f j for some j from i on, below i + k
@@ -66,6 +65,25 @@ share-intro (x ∷ xs) ys q h g =
     ⊎-elim (λ e. or-left (member x ys) _ (subst (λ (z : ℕ). member z ys ≡ true) (eqb-true q x e) g))
     (λ t. or-right (member x ys) _ (share-intro xs ys q t g))
     (or-true (eqb q x) _ h)
+
+-- the first and the last row and column that a path takes up
+abbrev pub top : ℕ → ℕ → ℕ
+top p d = cond (eqb d 2) 0 (row p)
+
+abbrev pub bottom : ℕ → ℕ → ℕ → ℕ
+bottom n p d = cond (eqb d 1) (n + 1) (row p)
+
+abbrev pub west-end : ℕ → ℕ → ℕ
+west-end p d = cond (eqb d 4) 0 (column p)
+
+abbrev pub east-end : ℕ → ℕ → ℕ → ℕ
+east-end m p d = cond (eqb d 3) (m + 1) (column p)
+
+-- whether the rows and the columns of two paths overlap
+unfoldable pub overlap : ℕ → ℕ → ℕ → ℕ → ℕ → ℕ → Bool
+overlap n m p d q e =
+    (leb (top p d) (bottom n q e) && leb (top q e) (bottom n p d))
+    && (leb (west-end p d) (east-end m q e) && leb (west-end q e) (east-end m p d))
 
 -- the row and the column of q are among those of the path
 pub record Box (n m p d q : ℕ) : Type 0 where
@@ -126,17 +144,17 @@ module _ (n m : ℕ) (hn : n ≤ 30) (hm : m ≤ 30) where
     overlap-meet : overlap n m p d q e ≡ true → meet n m p d q e ≡ true
     unfolding meet overlap
     overlap-meet h =
-        let h3 = and-true _ _ h in
-        let h2 = and-true _ _ (h3 .0) in
-        let h1 = and-true _ _ (h2 .0) in
+        let h0 = and-true _ _ h in
+        let h1 = and-true _ _ (h0 .0) in
+        let h2 = and-true _ _ (h0 .1) in
         let a = own p d wd ip in
         let b = own q e we iq in
         let r = max (top p d) (top q e) in
         let s = max (west-end p d) (west-end q e) in
         let r1 : r ≤ bottom n p d = max-le (a .rows) (leb-true _ _ (h1 .1)) in
         let r2 : r ≤ bottom n q e = max-le (leb-true _ _ (h1 .0)) (b .rows) in
-        let s1 : s ≤ east-end m p d = max-le (a .columns) (leb-true _ _ (h3 .1)) in
-        let s2 : s ≤ east-end m q e = max-le (leb-true _ _ (h2 .1)) (b .columns) in
+        let s1 : s ≤ east-end m p d = max-le (a .columns) (leb-true _ _ (h2 .1)) in
+        let s2 : s ≤ east-end m q e = max-le (leb-true _ _ (h2 .0)) (b .columns) in
         let z = 32 * r + s in
         let x : row z ≡ r = omega (arith, a .edge) in
         let y : column z ≡ s = omega (arith, a .edge) in
@@ -154,6 +172,5 @@ module _ (n m : ℕ) (hn : n ≤ 30) (hm : m ≤ 30) where
           to-east = rw y s2;
         }))
 
-    -- the arithmetic test is the definition
     pub overlap-is-meet : overlap n m p d q e ≡ meet n m p d q e
     overlap-is-meet = bool-ext _ _ overlap-meet meet-overlap

@@ -2,9 +2,7 @@
 -- Assumes nothing.
 use Prim.Native.Nat.{ℕ}
 use Rattle.array.proofs.Numbered.{Numbered-verdict, numbers}
-use Rattle.paths.specs.Path.{clash, refuse-clash, pair-test}
-use Rattle.paths.specs.declared.Clash.{Clash}
-use Rattle.paths.specs.declared.Clash.the-variants.{Clear, Meet, NearMiss}
+use Rattle.paths.specs.Path.{Clash, Clear, Meet, NearMiss, clash, refuse-clash, pair-test}
 
 clash-numbered : (p q : ℕ) (c : Clash) → Numbered-verdict (refuse-clash p q c)
 clash-numbered p q Clear = search numbers

@@ -14,8 +14,6 @@ use Rattle.array.specs.Map.{faulty}
 use Rattle.array.specs.Tests.{refuse}
 use Rattle.array.specs.declared.Verdict.{Verdict}
 use Rattle.array.specs.declared.Verdict.the-variants.{Accepted}
-use Rattle.paths.specs.declared.Clash.{Clash}
-use Rattle.paths.specs.declared.Clash.the-variants.{Clear, Meet, NearMiss}
 
 -- a choice by a direction byte, 1 to 4 in this order, and what stands for any other number
 abbrev pub by-direction : {A : Type 0} → ℕ → A → A → A → A → A → A
@@ -70,6 +68,11 @@ east-west p d q e = (eqb d 3 && eqb e 4) && (eqb (difference (row p) (row q)) 1 
 -- document 01's "near-miss"; either of the two paths may be named first
 unfoldable pub near-miss : ℕ → ℕ → ℕ → ℕ → Bool
 near-miss p d q e = (south-north p d q e || east-west p d q e) || (south-north q e p d || east-west q e p d)
+
+pub data Clash : Type 0 where
+  Clear : Clash
+  Meet : Clash
+  NearMiss : Clash
 
 -- how two paths clash: they meet, or else they are a near-miss, or else they are clear of each other
 unfoldable pub clash : ℕ → ℕ → ℕ → ℕ → ℕ → ℕ → Clash

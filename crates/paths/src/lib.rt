@@ -1,30 +1,20 @@
 // Paths: whether one is open, and whether two of them meet or are a near-miss. The functions are inner parts of the operations.
 use array::Refusal;
 use array::Verdict;
+use table::CLASHES;
 ghost use mathlib.Core.Path.{_≡_};
-ghost use Prim.Native.Nat.{_≤_, _<_};
+ghost use Prim.Native.Nat.{_≤_, _<_, _-_};
 ghost use lib.ListN.{length};
-ghost use Rattle.paths.specs.Path.{by-direction, ahead, path-length, is-open, near-miss, meet, clash, clear, pair-test, Start};
-ghost use Rattle.paths.specs.Extent.{overlap};
+ghost use Rattle.paths.specs.Path.{ahead, path-length, is-open, refuse-clash, Start};
+ghost use Rattle.paths.specs.Table.{class, entry, byte-of, Clash-table, Table-agrees};
+ghost use Rattle.paths.specs.Inner.{clash-of, Path-at};
 
-// How two paths clash. Meeting comes before near-miss.
-pub enum Clash {
-    Clear,
-    Meet,
-    NearMiss,
-}
+mod table;
 
-fn choose(d: u8, south: usize, north: usize, east: usize, west: usize, other: usize) -> usize
-    ensures { λ r. ⌜ r ≡ by-direction d south north east west other ⌝ }
-{
-    match d {
-        1 => south,
-        2 => north,
-        3 => east,
-        4 => west,
-        _ => other,
-    }
-}
+// Entries of the clash table; one that is neither of these is a near-miss.
+pub const CLEAR: u8 = 0;
+
+const MEET: u8 = 1;
 
 // How many processors a path has.
 pub fn length_of(n: usize, m: usize, p: usize, d: u8) -> usize
@@ -68,106 +58,50 @@ pub fn is_open(n: usize, m: usize, grid: &[u8], p: usize, d: u8) -> bool
     true
 }
 
-// Whether the rows and the columns that two paths take up overlap. The last test decides only where q starts above p.
-fn do_overlap(n: usize, m: usize, p: usize, d: u8, q: usize, e: u8) -> bool
-    requires { ⌜ (n ≤ 30) × (m ≤ 30) ⌝ }
-    ensures { λ r. ⌜ r ≡ overlap n m p d q e ⌝ }
+// The clash table, for a caller to lend: a constant is written out anew wherever it is named.
+pub fn clash_table() -> [u8; 400]
+    ensures { λ r. ⌜ Clash-table r × Table-agrees r ⌝ }
 {
-    let x = p / 32;
-    let y = p % 32;
-    let v = q / 32;
-    let w = q % 32;
-    if choose(d, n + 1, x, x, x, x) < choose(e, v, 0, v, v, v) {
-        return false;
-    }
-    if choose(e, w, w, m + 1, w, w) < choose(d, y, y, y, 0, y) {
-        return false;
-    }
-    if choose(d, y, y, m + 1, y, y) < choose(e, w, w, w, 0, w) {
-        return false;
-    }
-    choose(d, x, 0, x, x, x) <= choose(e, n + 1, v, v, v, v)
+    CLASHES
 }
 
-// Whether two paths share a processor.
-fn do_meet(n: usize, m: usize, p: usize, d: u8, q: usize, e: u8) -> bool
-    requires { ⌜ Start n m p d × Start n m q e ⌝ }
-    ensures { λ r. ⌜ r ≡ meet n m p d q e ⌝ }
+// By how much a exceeds b, 0 where it does not.
+fn excess(a: usize, b: usize) -> usize
+    ensures { λ r. ⌜ r ≡ a - b ⌝ }
 {
-    do_overlap(n, m, p, d, q, e)
+    if a < b { 0 } else { a - b }
 }
 
-// |a - b|
-fn distance(a: usize, b: usize) -> usize
-    ensures { λ r. ⌜ r ≡ Rattle.paths.specs.Path.difference a b ⌝ }
+// The class of a difference, second less first: 0 below -1, 1 at -1, 2 at 0, 3 at 1, 4 above 1.
+fn class_of(first: u8, second: u8) -> usize
+    requires { ⌜ (first ≤ 31) × (second ≤ 31) ⌝ }
+    ensures { λ r. ⌜ (r ≡ class first second) × (r ≤ 4) ⌝ }
 {
-    if a < b { b - a } else { a - b }
+    let class = excess(second as usize + 2, first as usize);
+    if 4 < class { 4 } else { class }
 }
 
-// Whether a south or east path from p and a north or west path from q are a near-miss.
-fn do_face(p: usize, d: u8, q: usize, e: u8) -> bool
-    ensures { λ r. ⌜ r ≡ Rattle.paths.specs.Extent.facing p d q e ⌝ }
+// The table's entry for two paths: one of direction d from row x and column y, and one of direction e from row v and column w.
+pub fn find_entry(table: &[u8; 400], x: u8, y: u8, d: u8, v: u8, w: u8, e: u8) -> u8
+    requires { ⌜ Clash-table (now table) × Path-at x y d × Path-at v w e ⌝ }
+    ensures { λ r. ⌜ r ≡ byte-of (entry d e (class x v) (class y w)) ⌝ }
 {
-    let x = p / 32;
-    let y = p % 32;
-    let v = q / 32;
-    let w = q % 32;
-    if (d == 1) & (e == 2) {
-        return (distance(y, w) == 1) & (x < v);
-    }
-    if (d == 3) & (e == 4) {
-        return (distance(x, v) == 1) & (y < w);
-    }
-    false
+    let pair = (d as usize - 1) * 4 + (e as usize - 1);
+    table[pair * 25 + 5 * class_of(x, v) + class_of(y, w)]
 }
 
-fn is_near_miss(p: usize, d: u8, q: usize, e: u8) -> bool
-    ensures { λ r. ⌜ r ≡ near-miss p d q e ⌝ }
+// Tests 6 and 7 of two paths, from p and from q, by their entry.
+pub fn check_clash(found: u8, p: usize, q: usize) -> Verdict
+    ensures { λ r. ⌜ r ≡ refuse-clash p q (clash-of found) ⌝ }
 {
-    do_face(p, d, q, e) | do_face(q, e, p, d)
-}
-
-// How two paths from distinct starts clash.
-fn find_clash(n: usize, m: usize, p: usize, d: u8, q: usize, e: u8) -> Clash
-    requires { ⌜ Start n m p d × Start n m q e × (p ≡ q → ⊥) ⌝ }
-    ensures { λ r. ⌜ r ≡ clash n m p d q e ⌝ }
-{
-    if do_meet(n, m, p, d, q, e) {
-        return Clash::Meet;
-    }
-    if is_near_miss(p, d, q, e) {
-        return Clash::NearMiss;
-    }
-    Clash::Clear
-}
-
-// Whether two paths from distinct starts neither meet nor nearly miss.
-pub fn are_clear(n: usize, m: usize, p: usize, d: u8, q: usize, e: u8) -> bool
-    requires { ⌜ Start n m p d × Start n m q e × (p ≡ q → ⊥) ⌝ }
-    ensures { λ r. ⌜ r ≡ clear n m p d q e ⌝ }
-{
-    let found = find_clash(n, m, p, d, q, e);
     match found {
-        Clash::Clear => true,
-        Clash::Meet => false,
-        Clash::NearMiss => false,
-    }
-}
-
-// Tests 6 and 7 of two paths from distinct starts.
-pub fn check_pair(n: usize, m: usize, p: usize, d: u8, q: usize, e: u8) -> Verdict
-    requires { ⌜ Start n m p d × Start n m q e × (p ≡ q → ⊥) ⌝ }
-    ensures { λ r. ⌜ r ≡ pair-test n m p d q e ⌝ }
-{
-    let found = find_clash(n, m, p, d, q, e);
-    match found {
-        Clash::Clear => Verdict::Accepted,
-        Clash::Meet => Verdict::Refused(Refusal {
+        CLEAR => Verdict::Accepted,
+        MEET => Verdict::Refused(Refusal {
             number: 6,
             place: p,
             second: q,
         }),
-        Clash::NearMiss => Verdict::Refused(Refusal {
+        _ => Verdict::Refused(Refusal {
             number: 7,
             place: p,
             second: q,

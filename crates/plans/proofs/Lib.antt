@@ -1,5 +1,6 @@
 pub mod Pairing
 pub mod Facts
+pub mod Entries
 pub mod ByPosition
 pub mod Planned
 pub mod Accepts

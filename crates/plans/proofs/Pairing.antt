@@ -14,13 +14,9 @@ use Rattle.array.specs.declared.Verdict.the-variants.{Accepted}
 use Rattle.array.specs.Buffer.{tabulate}
 use Rattle.array.proofs.Scans.{Scan, list-scan}
 use Rattle.array.proofs.Fills.{tabulate-length, tabulate-at}
-use Rattle.plans.specs.Faults.{fault, paired, directions-at}
+use Rattle.plans.specs.Faults.{fault, fault-at, paired, directions-at}
 use Rattle.plans.specs.Check.{clash-test, pairs-test}
 use Rattle.plans.specs.declared.Fault.{Fault}
-
--- fault k of two lists
-abbrev pub fault-at : List ℕ → List ℕ → ℕ → Fault
-fault-at ps ds k = fault (getD ps k 0) (getD ds k 0)
 
 pub paired-length : (ps ds : List ℕ) → length ds ≡ length ps → length (paired ps ds) ≡ length ps
 unfolding paired

@@ -7,14 +7,15 @@ use Prim.Native.Nat.{ℕ, _+_, _<_}
 use native.Mathlib.Omega.{arith}
 use lib.ListN.{length, getD}
 use Rattle.array.specs.declared.Verdict.the-variants.{Accepted}
-use Rattle.array.proofs.Verdicts.{both-accepted, accept-both, false-accepted, accepted-not}
+use Rattle.array.proofs.Verdicts.{both-accepted, accept-both, false-accepted}
 use Rattle.array.proofs.Scans.{scan-each, scan-each-from, scan-all, scan-all-from}
-use Rattle.paths.specs.Path.{is-open, meet, near-miss}
+use Rattle.paths.specs.Path.{meet, near-miss}
 use Rattle.paths.proofs.Clashes.{clear-neither, neither-clear, accepted-clear, clear-accepted}
-use Rattle.plans.specs.Faults.{faults, paired}
+use Rattle.plans.specs.Faults.{faults, fault-at, paired}
 use Rattle.plans.specs.Plan.{Choice, Plan, Blocked, not-open, meeting, near}
 use Rattle.plans.specs.Check.{open-test, opens-test, clash-test, pairs-test, paths-test}
-use Rattle.plans.proofs.Pairing.{fault-at, faults-scan, pairs-scan}
+use Rattle.plans.proofs.Pairing.{faults-scan, pairs-scan}
+use Rattle.plans.proofs.Entries.{opens-passed}
 
 module _ (n m : ℕ) (grid ds : List ℕ) where
   abbrev starts : List ℕ
@@ -37,9 +38,7 @@ module _ (n m : ℕ) (grid ds : List ℕ) where
     planned =
         record {
           one-path = chosen;
-          open-path = λ k h.
-              accepted-not (is-open n m grid (getD starts k 0) (getD ds k 0)) 5 (getD starts k 0) 0
-              (scan-each (faults-scan starts ds same (open-test n m grid)) opens k (omega (arith, same)));
+          open-path = λ k h. opens-passed n m grid starts ds same opens k (omega (arith, same));
           no-meeting = λ i j h l. clear i j h l .0;
           no-near-miss = λ i j h l. clear i j h l .1;
         }

@@ -20,7 +20,10 @@ directions-at directions (p ∷ ps) = getD directions p 0 ∷ directions-at dire
 abbrev pub fault : ℕ → ℕ → Fault
 fault p d = record { position = p; direction = d }
 
--- each of these positions with its direction
+-- the k-th of these positions with its direction, and all of them
+abbrev pub fault-at : List ℕ → List ℕ → ℕ → Fault
+fault-at ps ds k = fault (getD ps k 0) (getD ds k 0)
+
 unfoldable pub paired : List ℕ → List ℕ → List Fault
 paired [] ds = []
 paired (p ∷ ps) [] = []

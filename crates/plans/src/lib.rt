@@ -3,13 +3,14 @@ use array::Refusal;
 use array::Verdict;
 ghost use mathlib.Core.Path.{_≡_};
 ghost use mathlib.Core.Bool.{true};
-ghost use Prim.Native.Nat.{ℕ, _<_};
+ghost use Prim.Native.Nat.{ℕ, _≤_, _<_};
 ghost use lib.ListN.{length, getD};
 ghost use Rattle.array.specs.Map.{inner-faulty};
 ghost use Rattle.array.specs.Tests.{told};
-ghost use Rattle.plans.specs.Faults.{faults, directions-at, fault, paired, directed-faults};
-ghost use Rattle.plans.specs.Check.{wrong-direction, directions-test, open-test, opens-test, clash-test, pairs-test, paths-test, plan-tests, check-plan};
-ghost use Rattle.plans.specs.Inner.{Starts, Listed, Directed};
+ghost use Rattle.paths.specs.Table.{Clash-table};
+ghost use Rattle.plans.specs.Faults.{faults, directions-at, fault-at, paired, directed-faults};
+ghost use Rattle.plans.specs.Check.{wrong-direction, directions-test, open-test, opens-test, paths-test, plan-tests, check-plan};
+ghost use Rattle.plans.specs.Inner.{Starts, Beside, Paths-at, Pair-tested, Pairs-tested, Listed, Directed};
 
 // An inner fault with its position and the direction of its path, laid out as in C, where a caller may lend a list of them.
 #[repr(C)]
@@ -83,7 +84,7 @@ pub fn take_directions(directions: &[u8], starts: &[u16], out: &mut [u8])
 // Test 5 of the k-th fault. Fault k starts at starts[k] and has direction ds[k].
 fn check_open_at(n: usize, m: usize, grid: &[u8], starts: &[u16], ds: &[u8], k: usize) -> Verdict
     requires { ⌜ Starts n m (now starts) (now ds) × (k < length (now starts)) × (length (now grid) ≡ 1024) ⌝ }
-    ensures { λ r. ⌜ r ≡ open-test n m (now (grid .entry)) (fault (getD (now (starts .entry)) k 0) (getD (now (ds .entry)) k 0)) ⌝ }
+    ensures { λ r. ⌜ r ≡ open-test n m (now (grid .entry)) (fault-at (now (starts .entry)) (now (ds .entry)) k) ⌝ }
 {
     let p = wide(starts[k]);
     if !paths::is_open(n, m, grid, p, ds[k]) {
@@ -111,24 +112,61 @@ fn check_opens(n: usize, m: usize, grid: &[u8], starts: &[u16], ds: &[u8]) -> Ve
     Verdict::Accepted
 }
 
-// Tests 6 and 7 of the i-th fault and of the j-th, another one.
-fn check_pair_at(n: usize, m: usize, starts: &[u16], ds: &[u8], i: usize, j: usize) -> Verdict
-    requires { ⌜ Starts n m (now starts) (now ds) × (i ≡ j → ⊥) × (i < length (now starts)) × (j < length (now starts)) ⌝ }
-    ensures { λ r. ⌜ r ≡ clash-test n m (fault (getD (now (starts .entry)) i 0) (getD (now (ds .entry)) i 0)) (fault (getD (now (starts .entry)) j 0) (getD (now (ds .entry)) j 0)) ⌝ }
-{
-    paths::check_pair(n, m, wide(starts[i]), ds[i], wide(starts[j]), ds[j])
-}
-
-// Tests 6 and 7, pair by pair, left at the first pair that meets or is a near-miss.
-fn check_pairs(n: usize, m: usize, starts: &[u16], ds: &[u8]) -> Verdict
-    requires { ⌜ Starts n m (now starts) (now ds) ⌝ }
-    ensures { λ r. ⌜ r ≡ pairs-test n m (paired (now (starts .entry)) (now (ds .entry))) ⌝ }
+// Inner part: writes the row and the column of each start beside it.
+pub fn note_places(starts: &[u16], rows: &mut [u8], columns: &mut [u8])
+    requires { ⌜ (length (now starts) ≤ length (now rows)) × (length (now starts) ≤ length (now columns))
+        × ((i : ℕ) → i < length (now starts) → getD (now starts) i 0 < 1024) ⌝ }
+    ensures { λ _. ⌜ Beside (now (starts .entry)) (now (rows .exit)) (now (columns .exit)) ⌝ }
 {
     let count = starts.len();
+    for k in 0..count {
+        let p = starts[k];
+        rows[k] = (p / 32) as u8;
+        columns[k] = (p % 32) as u8;
+    }
+}
+
+// Tests 6 and 7 of the i-th fault and of the j-th, a later one, whose paths are open.
+fn check_pair_at(
+    table: &[u8; 400],
+    starts: &[u16],
+    rows: &[u8],
+    columns: &[u8],
+    ds: &[u8],
+    i: usize,
+    j: usize,
+) -> Verdict
+    requires { ⌜ Clash-table (now table) × Beside (now starts) (now rows) (now columns) × Paths-at (now starts) (now ds)
+        × (i < j) × (j < length (now starts)) ⌝ }
+    ensures { λ r. ⌜ Pair-tested (now (starts .entry)) (now (ds .entry)) i j r ⌝ }
+{
+    // a south path is clear of the open paths that start before it
+    if ds[j] == 1 {
+        return Verdict::Accepted;
+    }
+    let found = paths::find_entry(
+        table,
+        rows[i],
+        columns[i],
+        ds[i],
+        rows[j],
+        columns[j],
+        ds[j],
+    );
+    paths::check_clash(found, wide(starts[i]), wide(starts[j]))
+}
+
+// Tests 6 and 7 of open paths, pair by pair, left at the first pair that meets or is a near-miss. The table serves every size of array.
+fn check_pairs(starts: &[u16], rows: &[u8], columns: &[u8], ds: &[u8]) -> Verdict
+    requires { ⌜ Beside (now starts) (now rows) (now columns) × Paths-at (now starts) (now ds) ⌝ }
+    ensures { λ r. ⌜ Pairs-tested (now (starts .entry)) (now (ds .entry)) r ⌝ }
+{
+    let count = starts.len();
+    let table = paths::clash_table();
     let mut found = Verdict::Accepted;
     'pairs: for i in 0..count {
         for j in i + 1..count {
-            let v = check_pair_at(n, m, starts, ds, i, j);
+            let v = check_pair_at(&table, starts, rows, columns, ds, i, j);
             if let Verdict::Refused(_) = v {
                 found = v;
                 break 'pairs;
@@ -138,16 +176,27 @@ fn check_pairs(n: usize, m: usize, starts: &[u16], ds: &[u8]) -> Verdict
     found
 }
 
-// Inner part: tests 5 to 7 of these faults.
+// Tests 6 and 7, over room for the rows and columns of the starts.
+fn check_placed(starts: &[u16], ds: &[u8]) -> Verdict
+    requires { ⌜ Paths-at (now starts) (now ds) × (length (now starts) ≤ 1024) ⌝ }
+    ensures { λ r. ⌜ Pairs-tested (now (starts .entry)) (now (ds .entry)) r ⌝ }
+{
+    let mut rows = [0u8; 1024];
+    let mut columns = [0u8; 1024];
+    note_places(starts, &mut rows, &mut columns);
+    check_pairs(starts, &rows, &columns, ds)
+}
+
+// Inner part: tests 5 to 7 of the inner faults, which start at `starts`.
 pub fn check_paths(n: usize, m: usize, grid: &[u8], starts: &[u16], ds: &[u8]) -> Verdict
-    requires { ⌜ Starts n m (now starts) (now ds) × (length (now grid) ≡ 1024) ⌝ }
+    requires { ⌜ Starts n m (now starts) (now ds) × (length (now grid) ≡ 1024) × (now starts ≡ faults n m (now grid)) ⌝ }
     ensures { λ r. ⌜ r ≡ paths-test n m (now (grid .entry)) (paired (now (starts .entry)) (now (ds .entry))) ⌝ }
 {
     let open = check_opens(n, m, grid, starts, ds);
     if let Verdict::Refused(_) = open {
         return open;
     }
-    check_pairs(n, m, starts, ds)
+    check_placed(starts, ds)
 }
 
 // Tests 5 to 7, over room for the directions of the faults that start at `starts`.

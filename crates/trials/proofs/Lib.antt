@@ -8,5 +8,6 @@ pub mod Outcomes
 pub mod Rest
 pub mod Looping
 pub mod Testing
+pub mod Noting
 pub mod Writing
 pub mod Planning

@@ -17,7 +17,7 @@ use Rattle.trials.specs.declared.Outcome.{Outcome}
 use Rattle.trials.specs.declared.Outcome.the-variants.{Repaired, Beyond, Spent}
 use Rattle.trials.specs.Trials.{Search, found, exhausted, more, in-order, trials}
 use Rattle.trials.specs.Search.{outcome}
-use Rattle.trials.specs.Inner.{kept-in, Straight-front, Holds}
+use Rattle.trials.specs.Inner.{kept-in, Kept-front, Holds}
 use Rattle.trials.proofs.Rest.{left, left-one, left-none, left-next, onto, rest, rest-start, rest-done, rest-no, rest-yes, rest-up, rest-over, more-more, more-zero}
 
 -- a store past the first k directions changes none of them
@@ -105,19 +105,19 @@ module _ (keep : List Fault → ℕ → ℕ → Bool) (starts : List ℕ) where
         ∙ ap (more spent) (sym (rest-yes keep (kept-in starts chosen k) (getD starts k 0) d (drop (suc k) starts) f)))
 
 -- fault k is offered direction d next, after `spent` trials; `chosen` has the directions of the faults before it
-pub record State (keep : List Fault → ℕ → ℕ → Bool) (starts : List ℕ) (limit len : ℕ) (chosen : List ℕ) (k d spent : ℕ)
-    : Type 0 where
+pub record State (keep : List Fault → ℕ → ℕ → Bool) (opens : ℕ → ℕ → Bool) (starts : List ℕ) (limit len : ℕ) (chosen : List ℕ)
+    (k d spent : ℕ) : Type 0 where
   pub same : length chosen ≡ len
   pub fault-within : k ≤ length starts
   pub room : length starts ≤ len
   pub low : 1 ≤ d
   pub high : d ≤ 5
   pub within : spent ≤ limit
-  pub kept : Straight-front chosen k
+  pub kept : Kept-front opens starts chosen k
   pub total : more spent (left-at keep starts chosen k d) ≡ trials keep [] starts
 
-module _ (keep : List Fault → ℕ → ℕ → Bool) (starts : List ℕ) (limit len : ℕ) where
-  pub enter : (chosen : List ℕ) → length chosen ≡ len → length starts ≤ len → State keep starts limit len chosen 0 1 0
+module _ (keep : List Fault → ℕ → ℕ → Bool) (opens : ℕ → ℕ → Bool) (starts : List ℕ) (limit len : ℕ) where
+  pub enter : (chosen : List ℕ) → length chosen ≡ len → length starts ≤ len → State keep opens starts limit len chosen 0 1 0
   unfolding kept-in
   enter chosen e h =
       record {
@@ -131,9 +131,9 @@ module _ (keep : List Fault → ℕ → ℕ → Bool) (starts : List ℕ) (limit
         total = rw left-one (more-zero (rest keep [] in-order starts) ∙ rest-start keep starts);
       }
 
-  module _ {chosen : List ℕ} {k d spent : ℕ} (s : State keep starts limit len chosen k d spent) (in-loop : k < length starts) where
+  module _ {chosen : List ℕ} {k d spent : ℕ} (s : State keep opens starts limit len chosen k d spent) (in-loop : k < length starts) where
     -- no direction is left, and there is a fault before
-    pub up : 4 < d → (k ≡ 0 → ⊥) → State keep starts limit len chosen (k - 1) (getD chosen (k - 1) 0 + 1) spent
+    pub up : 4 < d → (k ≡ 0 → ⊥) → State keep opens starts limit len chosen (k - 1) (getD chosen (k - 1) 0 + 1) spent
     up h z =
         let e : k ≡ suc (k - 1) = omega arith in
         let l : k - 1 < k = omega arith in
@@ -167,7 +167,7 @@ module _ (keep : List Fault → ℕ → ℕ → Bool) (starts : List ℕ) (limit
 
     module _ (dir : d ≤ 4) where
       pub no : (spent ≡ limit → ⊥) → keep-at keep starts chosen k d ≡ false
-          → State keep starts limit len chosen k (d + 1) (spent + 1)
+          → State keep opens starts limit len chosen k (d + 1) (spent + 1)
       no l f =
           record {
             same = s .same;
@@ -180,9 +180,9 @@ module _ (keep : List Fault → ℕ → ℕ → Bool) (starts : List ℕ) (limit
             total = more-no keep starts chosen k d spent in-loop (s .low) dir f ∙ s .total;
           }
 
-      pub yes : (spent ≡ limit → ⊥) → keep-at keep starts chosen k d ≡ true
-          → State keep starts limit len (set chosen k d) (k + 1) 1 (spent + 1)
-      yes l f =
+      pub yes : (spent ≡ limit → ⊥) → opens (getD starts k 0) d ≡ true → keep-at keep starts chosen k d ≡ true
+          → State keep opens starts limit len (set chosen k d) (k + 1) 1 (spent + 1)
+      yes l o f =
           record {
             same = length-set chosen k d ∙ s .same;
             fault-within = omega arith;
@@ -197,10 +197,15 @@ module _ (keep : List Fault → ℕ → ℕ → Bool) (starts : List ℕ) (limit
           below : (i : ℕ) → i < k + 1 → i ≤ k
           below i m = omega arith
 
-          here : (i : ℕ) → i ≡ k → (1 ≤ getD (set chosen k d) i 0) × (getD (set chosen k d) i 0 ≤ 4)
-          here i e = rw (e, getD-set-same chosen k d 0 (omega arith)) (s .low, dir)
+          Kept-at : ℕ → Type 0
+          Kept-at i =
+              (1 ≤ getD (set chosen k d) i 0) × (getD (set chosen k d) i 0 ≤ 4)
+              × (opens (getD starts i 0) (getD (set chosen k d) i 0) ≡ true)
 
-          there : (i : ℕ) → i < k → (1 ≤ getD (set chosen k d) i 0) × (getD (set chosen k d) i 0 ≤ 4)
+          here : (i : ℕ) → i ≡ k → Kept-at i
+          here i e = rw (e, getD-set-same chosen k d 0 (omega arith)) (s .low, dir, o)
+
+          there : (i : ℕ) → i < k → Kept-at i
           there i m = rw (getD-set-other chosen k i d 0 (λ e. omega arith)) (s .kept i m)
 
       -- a trial is due, and the limit is reached
@@ -222,7 +227,7 @@ module _ (keep : List Fault → ℕ → ℕ → Bool) (starts : List ℕ) (limit
               (more-no keep starts chosen k d spent in-loop (s .low) dir f)
 
   -- every fault has its direction
-  pub done : {chosen : List ℕ} {k d spent : ℕ} → State keep starts limit len chosen k d spent → length starts ≤ k
+  pub done : {chosen : List ℕ} {k d spent : ℕ} → State keep opens starts limit len chosen k d spent → length starts ≤ k
       → Ends limit (trials keep [] starts) (Repaired spent) (take (length starts) chosen)
   done {chosen} {k} {d} {spent} s h =
       let e : k ≡ length starts = omega arith in

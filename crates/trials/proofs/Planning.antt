@@ -6,30 +6,27 @@ use mathlib.Core.Bool.{true}
 use mathlib.Core.List.{List}
 use native.Mathlib.Omega.{arith}
 use lib.ListN.{length, getD, take}
-use Rattle.array.specs.Place.{inner}
+use Rattle.array.specs.Map.{inner-fault}
 use Rattle.array.specs.Buffer.{Ascending}
-use Rattle.array.proofs.Bools.{and-true}
 use Rattle.plans.specs.Faults.{faults}
 use Rattle.plans.specs.Inner.{Listed}
-use Rattle.plans.proofs.Facts.{fault-hit, faults-rise}
+use Rattle.plans.proofs.Facts.{fault-hit, hit-inner-fault, faults-rise}
 use Rattle.trials.specs.declared.Outcome.{Outcome}
 use Rattle.trials.specs.Search.{searched, planned, outcome, directions-written}
 use Rattle.trials.specs.Inner.{Searchable, Holds, finished}
 use Rattle.trials.proofs.Writing.{finished-written}
 
 module _ {n m : ℕ} {grid old out : List ℕ} {count : ℕ} (s : Listed n m grid old out count) where
-  pub ready : {chosen : List ℕ} → n ≤ 30 → m ≤ 30 → length grid ≡ 1024 → length chosen ≡ 1024
-      → Searchable n m grid (take count out) chosen
-  ready a b g l =
+  pub ready : n ≤ 30 → m ≤ 30 → length grid ≡ 1024 → Searchable n m grid (take count out)
+  ready a b g =
       record {
         rows = a;
         columns = b;
         marks = g;
-        inside =
-            subst (λ (fs : List ℕ). (i : ℕ) → i < length fs → inner n m (getD fs i 0) ≡ true) (sym (s .front))
-            (λ i h. and-true (inner n m (getD (faults n m grid) i 0)) _ (fault-hit n m grid i h .passes) .0);
+        each =
+            subst (λ (fs : List ℕ). (i : ℕ) → i < length fs → inner-fault n m grid (getD fs i 0) ≡ true) (sym (s .front))
+            (λ i h. hit-inner-fault n m grid (getD (faults n m grid) i 0) (fault-hit n m grid i h));
         ascend = subst Ascending (sym (s .front)) (faults-rise n m grid);
-        room = omega (arith, s .size, s .short);
       }
 
   pub starts-below : length grid ≡ 1024 → (i : ℕ) → i < length (take count out) → getD (take count out) i 0 < 1024

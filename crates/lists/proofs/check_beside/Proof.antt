@@ -65,7 +65,7 @@ enum-told-2 : tie.Need-enum-told-2
 enum-told-2 c = search needs
 
 check-paths-requires : tie.Need-check-paths-requires
-check-paths-requires c κs = (may-start c, start (c .before .before) .pre .0 .grid-long)
+check-paths-requires c κs = let p = start (c .before .before) .pre .0 in (may-start c, p .grid-long, p .in-order)
 
 returns-2 : tie.Need-returns-2
 returns-2 c =

@@ -7,9 +7,9 @@ use lib.ListN.{length, getD}
 use denote.Ref.{now}
 use Rattle.array.specs.Tests.{or-else, refuse}
 use Rattle.array.specs.declared.Verdict.{Verdict}
-use Rattle.plans.specs.Faults.{fault, paired}
+use Rattle.plans.specs.Faults.{fault, fault-at, paired}
 use Rattle.plans.specs.declared.Fault.{Fault}
-use Rattle.plans.proofs.Pairing.{fault-at, paired-length, paired-at}
+use Rattle.plans.proofs.Pairing.{paired-length, paired-at}
 use Rattle.lists.specs.FaultList.{entry-test, listed-test}
 use Rattle.lists.proofs.Lists.{Lower, lower-is, listed-from, listed-turn, listed-missing, listed-beyond, listed-end}
 use native.Mathlib.Omega.{arith}

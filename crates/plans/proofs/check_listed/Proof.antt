@@ -46,6 +46,7 @@ check-paths-requires c κs =
           (subst (λ (x : List ℕ). Starts (a .n) (a .m) (faults (a .n) (a .m) (now (a .grid))) x) (sym (is-room t))
           (fault-starts (a .n) (a .m) (now (a .grid)) (now (a .directions)) (s .pre .0))),
       s .pre .0 .sound .grid-long,
+      s .pre .1,
     )
 
 same-length : tie.Need-same-length

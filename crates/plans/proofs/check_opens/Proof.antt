@@ -6,9 +6,9 @@ use lib.ListN.{length, drop}
 use Rattle.array.specs.Tests.{first-of}
 use Rattle.array.specs.declared.Verdict.{Verdict}
 use Rattle.array.proofs.Scans.{Seeking, seek-start, seek-stop, seek-pass, seek-none}
-use Rattle.plans.specs.Faults.{paired}
+use Rattle.plans.specs.Faults.{fault-at, paired}
 use Rattle.plans.specs.Check.{open-test, opens-test}
-use Rattle.plans.proofs.Pairing.{fault-at, faults-scan}
+use Rattle.plans.proofs.Pairing.{faults-scan}
 use native.Mathlib.Omega.{arith}
 use borrow.Author.Needs.{needs}
 use Rattle.plans.proofs.check_opens.Statement.{statement}

@@ -11,8 +11,8 @@ use Rattle.trials.proofs.find_plan.Statement.{statement}
 use Rattle.trials.proofs.find_plan.Tie as tie
 
 -- the working buffer has a place for each of them
-room : (c : tie.After-search) → c .before .before .before .before .list-faults .result ≤ length (c .search .last .1 .1 .1 .1 .0)
-room c = omega (arith, c .before .before .before .before .list-faults .ensures .short, c .search .kept .1 .1 .1 .1 .0)
+room : (c : tie.After-search-within) → c .before .before .before .before .list-faults .result ≤ length (c .search-within .last .1 .1 .1 .1 .0)
+room c = omega (arith, c .before .before .before .before .list-faults .ensures .short, c .search-within .kept .1 .1 .1 .1 .0)
 
 slice-aggregate-list-faults : tie.Need-slice-aggregate-list-faults
 slice-aggregate-list-faults c = search needs
@@ -23,16 +23,17 @@ list-faults-requires c κs = search needs
 array-share-prefix-starts : tie.Need-array-share-prefix-starts
 array-share-prefix-starts c = c .before .list-faults .ensures .fits
 
-slice-aggregate-search : tie.Need-slice-aggregate-search
-slice-aggregate-search c = c .before .before .list-faults .ensures .size
+slice-aggregate-search-within : tie.Need-slice-aggregate-search-within
+slice-aggregate-search-within c = c .before .before .list-faults .ensures .size
 
-slice-aggregate-search-2 : tie.Need-slice-aggregate-search-2
-slice-aggregate-search-2 c = search needs
+slice-aggregate-search-within-2 : tie.Need-slice-aggregate-search-within-2
+slice-aggregate-search-within-2 c = search needs
 
-search-requires : tie.Need-search-requires
-search-requires c κs =
+search-within-requires : tie.Need-search-within-requires
+search-within-requires c κs =
     let s = c .before .before .before .before .before .before .before in
-    ready (c .before .before .before .list-faults .ensures) (s .pre .0) (s .pre .1) (s .pre .2) (omega arith)
+    let l = c .before .before .before .list-faults .ensures in
+    (ready l (s .pre .0) (s .pre .1) (s .pre .2), omega (arith, l .size, l .short), omega (arith, l .size, l .short))
 
 array-share-prefix-starts-2 : tie.Need-array-share-prefix-starts-2
 array-share-prefix-starts-2 c = c .before .before .before .before .before .list-faults .ensures .fits
@@ -52,7 +53,7 @@ write-found-requires c κs =
     let f = q .before .before .before .before in
     let s = f .before .before .before .before in
     let l = f .list-faults .ensures in
-    let e = length-take-le (f .list-faults .result) (q .search .last .1 .1 .1 .1 .0) (room q) in
+    let e = length-take-le (f .list-faults .result) (q .search-within .last .1 .1 .1 .1 .0) (room q) in
     (s .pre .3, omega (arith, l .size, e), starts-below l (s .pre .2))
 
 same-length : tie.Need-same-length
@@ -61,7 +62,7 @@ same-length c = search needs
 returns : tie.Need-returns
 returns c =
     let q = c .before .before .before .before .before .before .before in
-    planned-end (q .before .before .before .before .list-faults .ensures) _ _ _ _ (q .search .ensures .0) (q .search .ensures .1) (c .before .before .write-found .ensures)
+    planned-end (q .before .before .before .before .list-faults .ensures) _ _ _ _ (q .search-within .ensures .0) (q .search-within .ensures .1) (c .before .before .write-found .ensures)
 
 pub find-plan-spec : {M : Type 1} → statement M
 find-plan-spec =
@@ -70,9 +71,9 @@ find-plan-spec =
     slice-aggregate-list-faults
     list-faults-requires
     array-share-prefix-starts
-    slice-aggregate-search
-    slice-aggregate-search-2
-    search-requires
+    slice-aggregate-search-within
+    slice-aggregate-search-within-2
+    search-within-requires
     array-share-prefix-starts-2
     slice-aggregate-write-found
     array-share-prefix-chosen

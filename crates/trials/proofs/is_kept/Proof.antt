@@ -1,102 +1,67 @@
--- `trials::is_kept` meets its contract: the path first, then its pairs with those kept, latest first.
+-- `trials::is_kept` meets its contract: the path first, then its pairs with those kept; a south path has none that could clash.
 -- Assumes nothing.
-use Prim.Native.Nat.{_-_, _<_}
-use lib.ListN.{getD}
-use Rattle.paths.specs.Path.{is-open, clear}
-use Rattle.trials.proofs.Testing.{Testing, start-at, test-shut, test-start, test-clash, test-next, test-end}
+use mathlib.Core.Path.{refl, sym, _∙_}
 use native.Mathlib.Omega.{arith}
+use borrow.Author.Needs.{needs}
+use borrow.Author.Tests.{not-true, not-false}
+use Rattle.trials.proofs.Testing.{south-clear, kept-at, entries-are-clear, keeps-by}
 use Rattle.trials.proofs.is_kept.Statement.{statement}
 use Rattle.trials.proofs.is_kept.Tie as tie
 
-abbrev Inv-loop : tie.InvT-loop
-Inv-loop n m grid starts chosen k d p j₀ j = Testing (is-open n m grid) (clear n m) starts chosen k d j
+-- the call
+abbrev began : tie.After-is-open-once → tie.Start
+began c = c .before .before .before .before .before .before .before .before
 
-abbrev μ-loop : tie.MeasureT-loop
-μ-loop n m grid starts chosen k d p j₀ j = j
+is-open-once-requires : tie.Need-is-open-once-requires
+is-open-once-requires c κs = search needs
 
-mul-p : tie.Need-mul-p Inv-loop μ-loop
-mul-p c = omega arith
+same-length : tie.Need-same-length
+same-length c = search needs
 
-shared-slice-read-p : tie.Need-shared-slice-read-p Inv-loop μ-loop
-shared-slice-read-p c = omega arith
+returns : tie.Need-returns
+returns c =
+    let o = c .before .before .before .is-open-once .ensures in
+    (keeps-by _ _ _ _ _ (o .0) (not-true _ (c .if1 .taken)) refl, o .1)
 
-cast-p : tie.Need-cast-p Inv-loop μ-loop
-cast-p c = omega (arith, c .shared-slice-known4 .given (c .before .before .before .before .args .k))
+same-length-2 : tie.Need-same-length-2
+same-length-2 c = search needs
 
-is-open-requires : tie.Need-is-open-requires Inv-loop μ-loop
-is-open-requires c κs =
-    let s = c .before .before .before .before in
-    (start-at (s .pre .0) (s .args .k) (s .args .d) (s .pre .1) (s .pre .3) (s .pre .4), s .pre .0 .marks)
-
-returns : tie.Need-returns Inv-loop μ-loop
-returns c = test-shut _ _ _ _ _ _ (c .before .is-open .ensures) (c .if1 .taken)
-
-loop-holds : tie.Need-loop-holds Inv-loop μ-loop
-loop-holds c = test-start _ _ _ _ _ _ (c .before .is-open .ensures) (c .if1 .left)
-
-sub-j : tie.Need-sub-j Inv-loop μ-loop
-sub-j c = omega arith
-
-mul-are-clear : tie.Need-mul-are-clear Inv-loop μ-loop
-mul-are-clear c = omega arith
-
-shared-slice-read-are-clear : tie.Need-shared-slice-read-are-clear Inv-loop μ-loop
-shared-slice-read-are-clear c = omega arith
-
-cast-are-clear : tie.Need-cast-are-clear Inv-loop μ-loop
-cast-are-clear c = omega (arith, c .shared-slice-known5 .given (c .before .before .loop .j - 1))
-
-shared-slice-read-are-clear-2 : tie.Need-shared-slice-read-are-clear-2 Inv-loop μ-loop
-shared-slice-read-are-clear-2 c = omega arith
-
-are-clear-requires : tie.Need-are-clear-requires Inv-loop μ-loop
-are-clear-requires c κs =
-    let l = c .before .before .before in
-    let s = l .before .before .before .before .before .before .before in
-    let j = l .loop .j - 1 in
-    let low : j < l .loop .j = omega arith in
-    let within = l .loop .inv .within in
-    let e = s .pre .2 j (omega arith) in (
-      start-at (s .pre .0) j (getD (s .args .chosen .now) j 0) (omega arith) (e .0) (e .1),
-      start-at (s .pre .0) (s .args .k) (s .args .d) (s .pre .1) (s .pre .3) (s .pre .4),
-      λ z. omega (arith, z, s .pre .0 .ascend j (s .args .k) (omega arith) (s .pre .1)),
-    )
-
-returns-2 : tie.Need-returns-2 Inv-loop μ-loop
+returns-2 : tie.Need-returns-2
 returns-2 c =
-    let v = c .before .before .before .before .before .loop .inv in
-    test-clash _ _ _ _ _ _ v (omega arith) (c .before .are-clear .ensures) (c .if2 .taken)
+    let q = c .before .before .before .before in
+    let o = q .is-open-once .ensures in
+    let s = began q in
+    let south = south-clear (s .pre .0 .search) _ (s .args .k) (s .pre .1) (s .pre .2) (s .args .k) (omega arith) in
+    (keeps-by _ _ _ _ _ (o .0) (not-false _ (c .before .if1 .left)) (rw (c .if2 .taken) south), o .1)
 
-loop-less : tie.Need-loop-less Inv-loop μ-loop
-loop-less c = omega arith
+is-clear-of-requires : tie.Need-is-clear-of-requires
+is-clear-of-requires c κs =
+    let s = began (c .before .before .before .before) in
+    let r = s .pre .0 in
+    (r .clashes, kept-at (r .search) _ (s .args .k) (s .pre .1) (s .pre .2) (r .beside) (s .args .d) (s .pre .3) (s .pre .4) (r .room))
 
-loop-again : tie.Need-loop-again Inv-loop μ-loop
-loop-again c =
-    let v = c .before .before .before .before .before .loop .inv in
-    test-next _ _ _ _ _ _ v (omega arith) (c .before .are-clear .ensures) (c .if2 .left)
+same-length-3 : tie.Need-same-length-3
+same-length-3 c = search needs
 
-returns-3 : tie.Need-returns-3 Inv-loop μ-loop
-returns-3 c = test-end _ _ _ _ _ _ _ (c .before .loop .inv) (omega arith)
+returns-3 : tie.Need-returns-3
+returns-3 c =
+    let q = c .before .before .before .before .before in
+    let o = q .is-open-once .ensures in
+    let s = began q in
+    let r = s .pre .0 in
+    let k = s .args .k in
+    let e = entries-are-clear (r .search) _ k (s .pre .1) (s .pre .2) (r .beside) _ (s .pre .3) (s .pre .4) k (omega arith) in
+    (keeps-by _ _ _ _ _ (o .0) (not-false _ (c .before .before .if1 .left)) (sym (c .is-clear-of .ensures ∙ e)), o .1)
 
 pub is-kept-spec : {M : Type 1} → statement M
 is-kept-spec =
     tie.close
     (tie.spec
-    Inv-loop
-    μ-loop
-    mul-p
-    shared-slice-read-p
-    cast-p
-    is-open-requires
+    is-open-once-requires
+    same-length
     returns
-    loop-holds
-    sub-j
-    mul-are-clear
-    shared-slice-read-are-clear
-    cast-are-clear
-    shared-slice-read-are-clear-2
-    are-clear-requires
+    same-length-2
     returns-2
-    loop-less
-    loop-again
+    is-clear-of-requires
+    same-length-3
     returns-3)
