@@ -88,8 +88,8 @@
  *  - A buffer that a call writes to (a parameter that is no pointer to const) overlaps no other buffer of the same call. Two buffers
  *    that are only read may be the same.
  *  - While a call runs, nothing else writes to its buffers, and nothing else reads those that it writes to.
- *  - CHANTSPRUCE_STACK bytes of stack are free. (This is measured and not proved: chantspruce_report takes 44 KiB, chantspruce_check_fault_list
- *    13 KiB, any other function less than 8 KiB.) Nothing is allocated and nothing is kept between calls, so that calls on different buffers
+ *  - CHANTSPRUCE_STACK bytes of stack are free. (This is measured and not proved: chantspruce_report takes 48 KiB, chantspruce_check_fault_list
+ *    16 KiB, any other function less than 12 KiB.) Nothing is allocated and nothing is kept between calls, so that calls on different buffers
  *    may run at the same time.
  * Where one of these is not met the behaviour is undefined, and nothing is promised of the result.
  */

@@ -30,8 +30,8 @@ fn is_processor_at(n: usize, m: usize, x: usize, y: usize) -> bool {
 }
 
 /// Asks first what holds at most positions, as the library does; so do the tests 4 and 16.
-fn is_processor(n: usize, m: usize, p: usize) -> bool {
-    is_inner(n, m, p) || is_processor_at(n, m, p / 32, p % 32)
+fn has_processor(n: usize, m: usize, x: usize, y: usize) -> bool {
+    is_inner_at(n, m, x, y) || is_processor_at(n, m, x, y)
 }
 
 fn check_map(n: usize, m: usize, right: bool, grid: &[u8]) -> Tested {
@@ -41,10 +41,13 @@ fn check_map(n: usize, m: usize, right: bool, grid: &[u8]) -> Tested {
     if !right {
         return refuse(2, 0, 0);
     }
-    for (p, &mark) in grid.iter().enumerate() {
-        let allowed = if is_processor(n, m, p) { mark <= 1 } else { mark == 2 };
-        if !allowed {
-            return refuse(3, p, 0);
+    for x in 0..32 {
+        for y in 0..32 {
+            let (p, mark) = (32 * x + y, grid[32 * x + y]);
+            let allowed = if has_processor(n, m, x, y) { mark <= 1 } else { mark == 2 };
+            if !allowed {
+                return refuse(3, p, 0);
+            }
         }
     }
     Ok(())
@@ -75,35 +78,54 @@ fn is_open(n: usize, m: usize, grid: &[u8], p: usize, d: u8) -> bool {
     (1..length_of(n, m, p, d)).all(|k| grid[step_ahead(p, d, k)] != 1)
 }
 
-fn choose(d: u8, south: usize, north: usize, east: usize, west: usize, other: usize) -> usize {
-    match d {
-        1 => south,
-        2 => north,
-        3 => east,
-        4 => west,
-        _ => other,
+/// How two paths clash, by the geometry: 0 not at all, 1 they meet, 2 a near-miss.
+const fn clash(d: usize, e: usize, rows: isize, columns: isize) -> u8 {
+    const FAR: isize = 9;
+    /// First and last row and column that a path takes up.
+    const fn extent(x: isize, y: isize, d: usize) -> [isize; 4] {
+        match d {
+            1 => [x, FAR, y, y],
+            2 => [-FAR, x, y, y],
+            3 => [x, x, y, FAR],
+            _ => [x, x, -FAR, y],
+        }
     }
-}
-
-fn do_meet(n: usize, m: usize, p: usize, d: u8, q: usize, e: u8) -> bool {
-    let (x, y, v, w) = (p / 32, p % 32, q / 32, q % 32);
-    choose(d, n + 1, x, x, x, x) >= choose(e, v, 0, v, v, v)
-        && choose(e, w, w, m + 1, w, w) >= choose(d, y, y, y, 0, y)
-        && choose(d, y, y, m + 1, y, y) >= choose(e, w, w, w, 0, w)
-        && choose(d, x, 0, x, x, x) <= choose(e, n + 1, v, v, v, v)
-}
-
-fn do_face(p: usize, d: u8, q: usize, e: u8) -> bool {
-    let (x, y, v, w) = (p / 32, p % 32, q / 32, q % 32);
-    match (d, e) {
-        (1, 2) => y.abs_diff(w) == 1 && x < v,
-        (3, 4) => x.abs_diff(v) == 1 && y < w,
+    if rows == 0 && columns == 0 {
+        return 0;
+    }
+    let [top, bottom, west, east] = extent(0, 0, d);
+    let [up, down, left, right] = extent(rows, columns, e);
+    if top <= down && up <= bottom && west <= right && left <= east {
+        return 1;
+    }
+    let near = match (d, e) {
+        (1, 2) => columns.abs() == 1 && rows > 0,
+        (2, 1) => columns.abs() == 1 && rows < 0,
+        (3, 4) => rows.abs() == 1 && columns > 0,
+        (4, 3) => rows.abs() == 1 && columns < 0,
         _ => false,
-    }
+    };
+    if near { 2 } else { 0 }
 }
 
-fn is_near_miss(p: usize, d: u8, q: usize, e: u8) -> bool {
-    do_face(p, d, q, e) || do_face(q, e, p, d)
+const CLASHES: [u8; 400] = {
+    let mut table = [0; 400];
+    let mut i = 0;
+    while i < 400 {
+        table[i] = clash(i / 100 + 1, i / 25 % 4 + 1, (i / 5 % 5) as isize - 2, (i % 5) as isize - 2);
+        i += 1;
+    }
+    table
+};
+
+fn class_of(first: u8, second: u8) -> usize {
+    (second as usize + 2).saturating_sub(first as usize).min(4)
+}
+
+#[allow(clippy::too_many_arguments)]
+fn find_entry(table: &[u8; 400], x: u8, y: u8, d: u8, v: u8, w: u8, e: u8) -> u8 {
+    let pair = (d as usize - 1) * 4 + e as usize - 1;
+    table[pair * 25 + 5 * class_of(x, v) + class_of(y, w)]
 }
 
 // The plan check.
@@ -117,6 +139,13 @@ fn list_faults(n: usize, m: usize, grid: &[u8], out: &mut [u16; LONG]) -> usize 
         }
     }
     count
+}
+
+fn note_places(starts: &[u16], rows: &mut [u8], columns: &mut [u8]) {
+    for (k, &p) in starts.iter().enumerate() {
+        rows[k] = (p / 32) as u8;
+        columns[k] = (p % 32) as u8;
+    }
 }
 
 fn check_directions(n: usize, m: usize, grid: &[u8], directions: &[u8]) -> Tested {
@@ -136,14 +165,18 @@ fn check_paths(n: usize, m: usize, grid: &[u8], starts: &[u16], ds: &[u8]) -> Te
             return refuse(5, p as usize, 0);
         }
     }
+    let (mut rows, mut columns) = ([0; LONG], [0; LONG]);
+    note_places(starts, &mut rows, &mut columns);
+    let table = CLASHES;
     for i in 0..starts.len() {
         for j in i + 1..starts.len() {
-            let (p, d, q, e) = (starts[i] as usize, ds[i], starts[j] as usize, ds[j]);
-            if do_meet(n, m, p, d, q, e) {
-                return refuse(6, p, q);
+            if ds[j] == 1 {
+                continue;
             }
-            if is_near_miss(p, d, q, e) {
-                return refuse(7, p, q);
+            match find_entry(&table, rows[i], columns[i], ds[i], rows[j], columns[j], ds[j]) {
+                0 => {}
+                1 => return refuse(6, starts[i] as usize, starts[j] as usize),
+                _ => return refuse(7, starts[i] as usize, starts[j] as usize),
             }
         }
     }
@@ -162,6 +195,10 @@ fn check_tests(n: usize, m: usize, right: bool, grid: &[u8], directions: &[u8]) 
     check_paths(n, m, grid, &starts[..count], &ds[..count])
 }
 
+pub fn check_plan(n: usize, m: usize, grid: &[u8], directions: &[u8]) -> Tested {
+    check_tests(n, m, grid.len() == LONG && directions.len() == LONG, grid, directions)
+}
+
 // The planner.
 
 #[derive(Clone, Copy, Debug, PartialEq)]
@@ -171,39 +208,71 @@ pub enum Outcome {
     Spent(u32),
 }
 
-fn is_kept(n: usize, m: usize, grid: &[u8], starts: &[u16], chosen: &[u8], k: usize, d: u8) -> bool {
-    let p = starts[k] as usize;
-    is_open(n, m, grid, p, d)
-        && (0..k).rev().all(|j| {
-            let (q, e) = (starts[j] as usize, chosen[j]);
-            !do_meet(n, m, q, e, p, d) && !is_near_miss(q, e, p, d)
-        })
+/// What the trials work over: the faults' starts, rows and columns, the clash table, what is known of open paths, and the directions kept.
+struct Trials<'a> {
+    n: usize,
+    m: usize,
+    grid: &'a [u8],
+    starts: &'a [u16],
+    rows: &'a [u8],
+    columns: &'a [u8],
+    table: &'a [u8; 400],
+    notes: &'a mut [u8],
+    chosen: &'a mut [u8],
+}
+
+impl Trials<'_> {
+    fn is_open_once(&mut self, k: usize, d: u8) -> bool {
+        let at = 4 * k + d as usize - 1;
+        if self.notes[at] != 0 {
+            return self.notes[at] == 2;
+        }
+        let open = is_open(self.n, self.m, self.grid, self.starts[k] as usize, d);
+        self.notes[at] = if open { 2 } else { 1 };
+        open
+    }
+
+    fn is_clear_of(&self, k: usize, d: u8) -> bool {
+        let (x, y) = (self.rows[k], self.columns[k]);
+        (0..k).rev().all(|j| find_entry(self.table, self.rows[j], self.columns[j], self.chosen[j], x, y, d) == 0)
+    }
+
+    fn is_kept(&mut self, k: usize, d: u8) -> bool {
+        self.is_open_once(k, d) && (d == 1 || self.is_clear_of(k, d))
+    }
+
+    fn search(&mut self, limit: u32) -> Outcome {
+        let (mut k, mut d, mut spent) = (0, 1u8, 0u32);
+        while k < self.starts.len() {
+            if d > 4 {
+                if k == 0 {
+                    return Outcome::Beyond(spent);
+                }
+                k -= 1;
+                d = self.chosen[k] + 1;
+                continue;
+            }
+            if spent == limit {
+                return Outcome::Spent(limit);
+            }
+            spent += 1;
+            if self.is_kept(k, d) {
+                self.chosen[k] = d;
+                k += 1;
+                d = 1;
+            } else {
+                d += 1;
+            }
+        }
+        Outcome::Repaired(spent)
+    }
 }
 
 fn search(n: usize, m: usize, grid: &[u8], starts: &[u16], chosen: &mut [u8], limit: u32) -> Outcome {
-    let (mut k, mut d, mut spent) = (0, 1u8, 0u32);
-    while k < starts.len() {
-        if d > 4 {
-            if k == 0 {
-                return Outcome::Beyond(spent);
-            }
-            k -= 1;
-            d = chosen[k] + 1;
-            continue;
-        }
-        if spent == limit {
-            return Outcome::Spent(limit);
-        }
-        spent += 1;
-        if is_kept(n, m, grid, starts, chosen, k, d) {
-            chosen[k] = d;
-            k += 1;
-            d = 1;
-        } else {
-            d += 1;
-        }
-    }
-    Outcome::Repaired(spent)
+    let (mut rows, mut columns, mut notes) = ([0; LONG], [0; LONG], [0; 4 * LONG]);
+    note_places(starts, &mut rows, &mut columns);
+    let (rows, columns, table, notes) = (&rows, &columns, &CLASHES, &mut notes);
+    Trials { n, m, grid, starts, rows, columns, table, notes, chosen }.search(limit)
 }
 
 fn find_plan(n: usize, m: usize, grid: &[u8], directions: &mut [u8], limit: u32) -> Outcome {

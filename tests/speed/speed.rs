@@ -118,6 +118,23 @@ fn compare_trials(faults: usize) {
     );
 }
 
+/// A map that few trials repair.
+fn compare_few(faults: usize) {
+    let limit = 1000;
+    let grid = find_map(faults, limit, |o| matches!(o, Outcome::Repaired(_)));
+    let (mut a, mut b) = (vec![0; LONG], vec![0; LONG]);
+    compare(
+        &format!("plan_repair, 30 x 30, {faults} faults"),
+        200,
+        &mut || {
+            black_box(chantspruce::plan_repair(30, 30, black_box(&grid), &mut a, limit)).ok();
+        },
+        &mut || {
+            black_box(same::plan_repair(30, 30, black_box(&grid), &mut b, limit)).ok();
+        },
+    );
+}
+
 fn compare_reading() {
     let mut grid = healthy();
     for p in 0..LONG {
@@ -144,6 +161,16 @@ fn compare_plan(faults: usize) {
     let mut directions = vec![0; LONG];
     same::plan_repair(30, 30, &grid, &mut directions, 100_000).expect("a plan");
     let directions = directions;
+    compare(
+        &format!("check_plan, 30 x 30, {faults} faults"),
+        200,
+        &mut || {
+            black_box(chantspruce::check_plan(30, 30, black_box(&grid), &directions)).ok();
+        },
+        &mut || {
+            black_box(same::check_plan(30, 30, black_box(&grid), &directions)).ok();
+        },
+    );
     let (mut a, mut b) = (vec![0u16; LONG], vec![0u16; LONG]);
     compare(
         &format!("place_cells, 30 x 30, {faults} faults"),
@@ -244,7 +271,8 @@ fn measure_listing(name: &str) {
 }
 
 fn main() {
-    for faults in [20, 40, 60] {
+    compare_few(5);
+    for faults in [20, 34, 40, 60] {
         compare_trials(faults);
     }
     compare_reading();
