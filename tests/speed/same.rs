@@ -335,11 +335,19 @@ pub fn place_cells(n: usize, m: usize, grid: &[u8], directions: &[u8], places: &
 }
 
 fn vertical_state(d: u8, fault: bool) -> u8 {
-    match d {
-        1 => 1 + fault as u8,
-        2 => 4 - fault as u8,
-        _ => 0,
+    if d != 1 && d != 2 {
+        return 0;
     }
+    if !fault && d == 1 {
+        return 1;
+    }
+    if fault && d == 1 {
+        return 2;
+    }
+    if fault && d == 2 {
+        return 3;
+    }
+    4
 }
 
 fn state_at(grid: &[u8], traced: &[u8; LONG], down: bool, p: usize) -> u8 {

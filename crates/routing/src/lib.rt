@@ -145,15 +145,24 @@ pub fn place(n: usize, m: usize, grid: &[u8], directions: &[u8], places: &mut [u
     place_within(n, m, grid, directions, &mut traced, places);
 }
 
-// Inner part: the vertical routing state, from the direction of the path through a processor and whether it is faulty.
+// Inner part: the vertical routing state, from the direction of the path through a processor and whether it is faulty. Decided in
+// the order of Table I of document 003: a test for each of its lines 0 to 3, and line 4 is what these leave.
 fn vertical_state(d: u8, fault: bool) -> u8
     ensures { λ r. ⌜ r ≡ vertical d fault ⌝ }
 {
-    match d {
-        1 => if fault { 2 } else { 1 },
-        2 => if fault { 3 } else { 4 },
-        _ => 0,
+    if (d != 1) & (d != 2) {
+        return 0;
     }
+    if !fault & (d == 1) {
+        return 1;
+    }
+    if fault & (d == 1) {
+        return 2;
+    }
+    if fault & (d == 2) {
+        return 3;
+    }
+    4
 }
 
 // Inner part: a direction in the transposed grid.
