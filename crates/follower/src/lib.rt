@@ -15,7 +15,8 @@ ghost use Rattle.track.specs.Link.{run, enters, unjoined-at};
 ghost use Rattle.track.specs.Follower.{refused, judged, out-of, switches-test};
 ghost use Rattle.follower.specs.Inner.{Ready, compass, node, node-of, port-of, Sound-port, opposite, kind-beyond, beyond, before-all, along, Neighbours, Stretches, joining, straight-joins, switch-joins, processor-joins, Finds, fourth, Sound-walk, Steps, passing, entering, leaving, switches-allowed};
 
-// A port: of a processor (kind 0), an across switch (1) or a down switch (2), by its row and column, on a side (W, E, N, S are 0 to 3).
+// A port: of a processor (kind 0), an across switch (kind 1, SW2 in document 003) or a down switch (kind 2, SW1), by its row and
+// column, on a side (W, E, N, S are 0 to 3). A switch has the row and column of the processor that it is filed under.
 struct Port {
     kind: u8,
     row: usize,
@@ -57,7 +58,8 @@ fn opposite_side(side: u8) -> u8
     if side % 2 == 0 { side + 1 } else { side - 1 }
 }
 
-// Inner part: the kind of node that a stretch leads to.
+// Inner part: the kind of node that a stretch leads to. 1 + side / 2 is the kind of switch between two processors: across for W
+// and E, down for N and S. Along its channel a switch leads to one of its own kind.
 fn next_kind(kind: u8, side: u8) -> u8
     requires { ⌜ (kind ≤ 2) × (side ≤ 3) ⌝ }
     ensures { λ r. ⌜ (r ≡ kind-beyond kind side) × (r ≤ 2) ⌝ }
@@ -68,7 +70,8 @@ fn next_kind(kind: u8, side: u8) -> u8
     if kind == 1 + side / 2 { 0 } else { kind }
 }
 
-// Inner part: whether a stretch would lead before row or column 0.
+// Inner part: whether a stretch would lead before row or column 0. From a switch to the processor that it is filed under, row
+// and column stay.
 fn is_before_all(kind: u8, side: u8, i: usize) -> bool
     requires { ⌜ side ≤ 3 ⌝ }
     ensures { λ r. ⌜ r ≡ before-all kind side i ⌝ }
@@ -76,7 +79,8 @@ fn is_before_all(kind: u8, side: u8, i: usize) -> bool
     ((side % 2 == 0) & !(kind == 1 + side / 2)) & (i == 0)
 }
 
-// Inner part: the row or column, along the axis of its side, that a stretch from i leads to.
+// Inner part: the row or column, along the axis of its side, that a stretch from i leads to. It stays i between a processor and the
+// switches filed under it, those at its E and S ports.
 fn next_index(kind: u8, side: u8, i: usize) -> usize
     requires { ⌜ (side ≤ 3) × (i ≤ 31) × (before-all kind side i ≡ false) ⌝ }
     ensures { λ r. ⌜ (r ≡ beyond kind side i) × (r ≤ 32) ⌝ }
@@ -172,7 +176,8 @@ fn straight(axis: u8, side: u8) -> Inside
     Inside::Stops
 }
 
-// Inner part: what the letter of a switch joins. Straight on, a is for links along the switch's channel and b for links across it.
+// Inner part: what the letter of a switch joins. `a` joins the two ports along its channel, `b` the two that lead to processors;
+// in both kinds of switch `c` joins W with S and E with N, `d` joins W with N and E with S.
 fn switch_join(kind: u8, letter: u8, side: u8) -> Inside
     requires { ⌜ (1 ≤ kind) × (kind ≤ 2) × (side ≤ 3) ⌝ }
     ensures { λ r. ⌜ r ≡ joining (switch-joins kind letter (compass side)) ⌝ }
@@ -186,7 +191,7 @@ fn switch_join(kind: u8, letter: u8, side: u8) -> Inside
     }
 }
 
-// Inner part: what a fault joins, by the direction of its path.
+// Inner part: what a fault joins, by the direction of its path: N with S on a vertical path, W with E on a horizontal one.
 fn fault_join(direction: u8, side: u8) -> Inside
     requires { ⌜ side ≤ 3 ⌝ }
     ensures { λ r. ⌜ r ≡ joining (fault-joins direction (compass side)) ⌝ }
@@ -252,7 +257,7 @@ fn is_fourth(kind: u8, passed: u8) -> bool
     !(kind == 0) & (passed == 3)
 }
 
-// Inner part: a node entered that ends the link: a spare may be faulty.
+// Inner part: a processor entered that joins nothing: the link ends there, or with 17 if it is a faulty spare.
 fn land(grid: &[u8], port: Port, last: usize, passed: u8) -> Followed
     requires { ⌜ (length (now grid) ≡ 1024) × Sound-port port ⌝ }
     ensures { λ r. ⌜ r ≡ judged (now (grid .entry)) last passed (enters (port-of port)) ⌝ }
@@ -360,7 +365,8 @@ fn advance(
     enter(n, m, grid, directions, across, down, i, last, walk.passed)
 }
 
-// Inner part: the link that leaves the processor at `from` by its east (side 0) or south (1) port. A fourth switch is at most the seventh node.
+// Inner part: the link that leaves the processor at `from` by its east (side 0) or south (1) port, which are the sides 1 and 3 of a
+// port. A fourth switch is at most the seventh node.
 pub fn follow(
     n: usize,
     m: usize,
@@ -407,7 +413,8 @@ fn is_switch_byte(exists: bool, byte: u8) -> bool
     }
 }
 
-// Inner part: whether both switch bytes of a position are what it allows.
+// Inner part: whether both switch bytes of a position, `a` of the across switch and `d` of the down switch (not the letters a and
+// d), are what it allows.
 fn are_switch_bytes(n: usize, m: usize, p: usize, a: u8, d: u8) -> bool
     requires { ⌜ (n ≤ 30) × (m ≤ 30) × (p < 1024) ⌝ }
     ensures { λ r. ⌜ r ≡ switches-allowed n m p a d ⌝ }

@@ -1,4 +1,6 @@
-// Inner parts of placement and routing: the operations call these once the tests have passed.
+// Inner parts of placement and routing: the operations call these once the tests have passed. `traced` holds the direction of the
+// path through each position (1 south, 2 north, 3 east, 4 west, 0 none). As a bool `down` tells a down switch (SW1 in document 003)
+// from an across switch (SW2); as a buffer it holds the letters of the down switches.
 ghost use mathlib.Core.Path.{_≡_};
 ghost use Prim.Native.Nat.{_≤_, _<_};
 ghost use lib.ListN.{length};
@@ -85,7 +87,7 @@ fn trace_paths(n: usize, m: usize, grid: &[u8], directions: &[u8], out: &mut [u8
     trace_within(n, m, grid, directions, &mut starts, &mut room, out);
 }
 
-// Inner part: the next processor in direction d, or p itself.
+// Inner part: the next processor in direction d, or p itself where d is no direction.
 fn next_to(p: usize, d: u8) -> usize
     requires { ⌜ (32 ≤ p) × (p < 1024) ⌝ }
     ensures { λ r. ⌜ (r ≡ ahead p d 1) × (r < 2048) ⌝ }
@@ -99,7 +101,7 @@ fn next_to(p: usize, d: u8) -> usize
     }
 }
 
-// Inner part: where the cell of p sits, or 0 where p has no cell.
+// Inner part: where the cell of p sits (P in document 003), or 0 where p has no cell.
 fn place_at(n: usize, m: usize, traced: &[u8], p: usize) -> u16
     requires { ⌜ (length (now traced) ≡ 1024) × (p < 1024) ⌝ }
     ensures { λ r. ⌜ r ≡ placed-by n m (now (traced .entry)) p ⌝ }
@@ -185,7 +187,7 @@ fn horizontal_state(d: u8, fault: bool) -> u8
     vertical_state(transpose(d), fault)
 }
 
-// Inner part: the routing state by which the down switches or the across switches go.
+// Inner part: the routing state that a switch goes by: horizontal for a down switch, vertical for an across switch.
 fn state_of(down: bool, d: u8, fault: bool) -> u8
     ensures { λ r. ⌜ r ≡ state down d fault ⌝ }
 {
@@ -196,7 +198,7 @@ fn state_of(down: bool, d: u8, fault: bool) -> u8
     }
 }
 
-// Inner part: the same of the processor at p.
+// Inner part: the same of the processor at p, from the path through it and its mark.
 fn state_at(grid: &[u8], traced: &[u8], down: bool, p: usize) -> u8
     requires { ⌜ (length (now grid) ≡ 1024) × (length (now traced) ≡ 1024) × (p < 1024) ⌝ }
     ensures { λ r. ⌜ (r ≡ state-by down (now (grid .entry)) (now (traced .entry)) p) × (r ≤ 4) ⌝ }
@@ -204,7 +206,7 @@ fn state_at(grid: &[u8], traced: &[u8], down: bool, p: usize) -> u8
     state_of(down, traced[p], array::is_faulty(grid[p]))
 }
 
-// Inner part: whether a switch is filed under p.
+// Inner part: whether a switch is filed under p: a processor is there, and one below it (down) or to its right (across).
 fn is_switch(n: usize, m: usize, down: bool, p: usize) -> bool
     requires { ⌜ (n ≤ 30) × (m ≤ 30) ⌝ }
     ensures { λ r. ⌜ r ≡ switch-exists down n m p ⌝ }
@@ -219,7 +221,7 @@ fn is_switch(n: usize, m: usize, down: bool, p: usize) -> bool
     }
 }
 
-// Inner part: the position of the switch's second processor.
+// Inner part: the position of the second processor of the switch filed under p, below it (down) or to its right (across).
 fn second_of(down: bool, p: usize) -> usize
     requires { ⌜ p < 1024 ⌝ }
     ensures { λ r. ⌜ r ≡ second-at down p ⌝ }
@@ -227,7 +229,7 @@ fn second_of(down: bool, p: usize) -> usize
     if down { p + 32 } else { p + 1 }
 }
 
-// Inner part: the letter of the switch filed under p, or 0.
+// Inner part: the letter of the switch filed under p, by the states of its two processors, or 0 where no switch is.
 fn letter_at(n: usize, m: usize, grid: &[u8], traced: &[u8], down: bool, p: usize) -> u8
     requires { ⌜ (n ≤ 30) × (m ≤ 30) × (length (now grid) ≡ 1024) × (length (now traced) ≡ 1024) × (p < 1024) ⌝ }
     ensures { λ r. ⌜ r ≡ letter-by down n m (now (grid .entry)) (now (traced .entry)) p ⌝ }

@@ -329,6 +329,9 @@ module _ (w : View) (r : Rules w) (k l : ℕ) (hi : suc k ≤ w .rows) (hj : suc
         owned = (lw, (le, (le, (mw, (mw, (me, (me, (ow, (ow, (oe, (oe, tt)))))))))));
       })
 
+  -- Document 003's Fig. 15, by the horizontal states of A at (i, j) and B at (i, j+1), with i = k+1 and j = l+1. State 0 is its
+  -- None, South and North: `plain` has nine of its 25 fields, `to-east` and `from-west` three each, the others one. The other 7 do
+  -- not occur in a plan: an east path through A runs on through B, and a west path through B through A.
   by-states :
       (a b : State) → horizontal w (suc k) (suc l) ≡ a → horizontal w (suc k) (suc (suc l)) ≡ b → T (above a b) →
       Right w (suc k) (suc l)

@@ -1,5 +1,6 @@
 -- Document 01, "Placement and routing": routing states, the table of letters, and the two switch buffers.
--- Kung, Jean, Chang, "Fault-Tolerant Array Processors Using Single-Track Switches": the states are its Table I, the letters its Table II.
+-- Document 003 (Kung, Jean, Chang, "Fault-Tolerant Array Processors Using Single-Track Switches"): the states are its Table I,
+-- the letters its Table II.
 -- Assumes nothing.
 use Prim.Native.Nat.{ℕ, _+_, _*_}
 use mathlib.Core.Bool.{Bool, cond, _&&_}
@@ -13,12 +14,12 @@ use Rattle.plans.specs.Faults.{directed-faults}
 use Rattle.plans.specs.declared.Fault.{Fault}
 use Rattle.track.specs.Placement.{through}
 
--- The vertical routing state (Table I), from the direction of the path through a processor and whether it is faulty: 1 and 2 on a
--- south path, 4 and 3 on a north path, the second of each at its fault; 0 where no vertical path is.
+-- The vertical routing state (VRS, Table I), from the direction of the path through a processor and whether it is faulty: 0 on no
+-- vertical path; 1 healthy, 2 faulty on a south path; 3 faulty, 4 healthy on a north path.
 abbrev pub vertical : ℕ → Bool → ℕ
 vertical d fault = cond (eqb d 1) (cond fault 2 1) (cond (eqb d 2) (cond fault 3 4) 0)
 
--- the horizontal one: transposing takes east to south and west to north
+-- the horizontal one (HRS): transposing takes east to south and west to north
 abbrev pub horizontal : ℕ → Bool → ℕ
 horizontal d fault = cond (eqb d 3) (cond fault 2 1) (cond (eqb d 4) (cond fault 3 4) 0)
 
@@ -57,11 +58,11 @@ entry west east = getD letters (west * 5 + east) 0
 unfoldable pub letter : ℕ → ℕ → ℕ
 letter west east = cond (eqb (entry west east) x) b (entry west east)
 
--- an across switch stands between two processors of a row, and is filed under the left one
+-- an across switch (SW2 in document 003) stands between two processors of a row, and is filed under the left one
 abbrev pub across-exists : ℕ → ℕ → ℕ → ℕ → Bool
 across-exists n m x y = processor-at n m x y && processor-at n m x (y + 1)
 
--- a down switch stands between two of a column, and is filed under the upper one
+-- a down switch (SW1) stands between two of a column, and is filed under the upper one
 abbrev pub down-exists : ℕ → ℕ → ℕ → ℕ → Bool
 down-exists n m x y = processor-at n m x y && processor-at n m (x + 1) y
 

@@ -1,5 +1,6 @@
 -- Document 01, "Placement and routing": the path through a position, and the placement.
--- Kung, Jean, Chang, "Fault-Tolerant Array Processors Using Single-Track Switches": its placement along compensation paths.
+-- Document 003 (Kung, Jean, Chang, "Fault-Tolerant Array Processors Using Single-Track Switches"): its placement P along
+-- compensation paths.
 -- Assumes nothing.
 use Prim.Native.Nat.{ℕ}
 use mathlib.Core.Bool.{cond}

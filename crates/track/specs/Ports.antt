@@ -40,10 +40,10 @@ abbrev pub _at_ : Node → Compass → Port
 v at s = record { node = v; side = s }
 
 -- Which port neighbours which, wherever both stand:
---   P(x,y) E - W A(x,y) E - W P(x,y+1)     the across switch between two processors of a row
---   P(x,y) S - N D(x,y) S - N P(x+1,y)     the down switch between two processors of a column
---   A(x,y) S - N A(x+1,y)                  an across switch and the one below it in its channel
---   D(x,y) E - W D(x,y+1)                  the same, transposed
+--   Processor (x,y) E - W Across (x,y) E - W Processor (x,y+1)    the across switch between two processors of a row
+--   Processor (x,y) S - N Down (x,y) S - N Processor (x+1,y)      the down switch between two processors of a column
+--   Across (x,y) S - N Across (x+1,y)                             an across switch and the one below it in its channel
+--   Down (x,y) E - W Down (x,y+1)                                 the same, transposed
 unfoldable pub neighbour : Node → Compass → Option Port
 neighbour (Processor x y) E = some (Across x y at W)
 neighbour (Processor x y) S = some (Down x y at N)
@@ -71,7 +71,8 @@ abbrev pub if-stands : ℕ → ℕ → Option Port → Option Port
 if-stands n m none = none
 if-stands n m (some i) = cond (stands n m (i .node)) (some i) none
 
--- the port at the other end of the stretch that begins at a port, if there is one
+-- the port at the other end of the stretch that begins at a port, if there is one; document 003 calls a stretch between
+-- two switches a segment
 unfoldable pub stretch-from : Wafer → Port → Option Port
 stretch-from w o = if-stands (w .rows) (w .columns) (neighbour (o .node) (o .side))
 
@@ -107,7 +108,7 @@ abbrev pub by-letter : {A : Type 0} → ℕ → A → A → A → A → A → A
 by-letter l ja jb jc jd other =
     cond (eqb l a) ja (cond (eqb l b) jb (cond (eqb l c) jc (cond (eqb l d) jd other)))
 
--- what the letter of an across switch joins
+-- what the letter of an across switch joins, worked out from Table II: the switch functions of document 003's Fig. 1(b) are lost
 abbrev pub across-joins : ℕ → Compass → Option Compass
 across-joins l = by-letter l N–S W–E W–S·E–N W–N·E–S unjoined
 
@@ -115,7 +116,7 @@ across-joins l = by-letter l N–S W–E W–S·E–N W–N·E–S unjoined
 abbrev pub down-joins : ℕ → Compass → Option Compass
 down-joins l = by-letter l W–E N–S W–S·E–N W–N·E–S unjoined
 
--- what an inner fault joins, by the direction of its path: the two ports that lie along it
+-- what an inner fault joins (a connecting element in document 003), by the direction of its path: the two ports along it
 abbrev pub fault-joins : ℕ → Compass → Option Compass
 fault-joins d = by-direction d N–S N–S W–E W–E unjoined
 

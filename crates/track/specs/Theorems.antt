@@ -43,6 +43,7 @@ abbrev pub out : Wafer → ℕ → ℕ → ℕ → Port
 out w i j side = out-of (holder w i j) side
 
 -- the right neighbour of [i, j] is on side 0, [i, j+1] where j < M, to be entered by W; the lower one is on side 1, [i+1, j] where i < N, by N
+-- (the links to them are the horizontal and the vertical links of document 003)
 pub data Neighbour (w : Wafer) (i j : ℕ) : ℕ → ℕ → ℕ → Compass → Type 0 where
   right : Cell w i j → j < w .columns → Neighbour w i j 0 i (j + 1) W
   lower : Cell w i j → i < w .rows → Neighbour w i j 1 (i + 1) j N
@@ -54,7 +55,8 @@ pub record Reaches (w : Wafer) (i j side k l : ℕ) (port : Compass) : Type 0 wh
   pub ends : Enters link (processor-of (holder w k l) at port)
   pub few : switches link ≤ 3
 
--- every link to a neighbour reaches it
+-- Every link to a neighbour reaches it: the routing of document 003's reconfigurability theorem. In its proof A and B are the
+-- processors at (i, j) and (k, l), and C and D those that hold the two cells.
 abbrev pub Links-reach : Type 0
 Links-reach =
     (w : Wafer) → Routed w → (i j side k l : ℕ) (port : Compass) → Neighbour w i j side k l port → Reaches w i j side k l port

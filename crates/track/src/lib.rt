@@ -20,7 +20,7 @@ pub enum Followed {
 // The functions of this crate are inner parts of the operations.
 
 // The letter of a switch between two processors with these routing states: west and east, or upper and lower.
-// Table II of Kung, Jean, Chang, "Fault-Tolerant Array Processors Using Single-Track Switches", with b at x.
+// Table II of document 003, its entries numbered along the rows from 0 to 24, with b at x.
 pub fn switch_letter(west: u8, east: u8) -> u8
     requires { ⌜ (west ≤ 4) × (east ≤ 4) ⌝ }
     ensures { λ r. ⌜ r ≡ letter west east ⌝ }
