@@ -1,20 +1,24 @@
--- Document 01, "The array" and "Numbers returned": grid marks, and the tests 1, 2 and 3 of a fault map.
--- Assumes nothing.
+-- Document 01, "The array" and "Numbers returned", and document 02, T-04: grid marks, and the tests 1, 2 and 3 of a fault
+-- map. Assumes nothing.
 use Prim.Native.Nat.{ℕ}
-use mathlib.Core.Bool.{Bool, cond, not, _&&_}
+use mathlib.Core.Bool.{Bool, cond, not, _&&_, _||_}
 use mathlib.Core.List.{List, [], _∷_}
 use lib.Dec.{leb, eqb}
 use lib.ListN.{getD}
-use Rattle.array.specs.Place.{size, row, column, inner, processor-at}
+use Rattle.array.specs.Place.{size, row, column, inner-at, inner, processor-at}
 use Rattle.array.specs.Tests.{or-else, refuse-if, first-in}
 use Rattle.array.specs.Buffer.{all-long}
 use Rattle.array.specs.declared.Verdict.{Verdict}
 
+-- document 02's "dead processor" (T-04): a fault that cannot be made a connecting element
+abbrev pub dead-mark : ℕ → Bool
+dead-mark mark = eqb mark 3
+
 -- the marks that count as faulty
 unfoldable pub faulty-mark : ℕ → Bool
-faulty-mark mark = eqb mark 1
+faulty-mark mark = eqb mark 1 || dead-mark mark
 
--- 0 healthy, 1 faulty, 2 no processor; nothing stands beyond the buffer
+-- 0 healthy, 1 faulty, 2 no processor, 3 dead; nothing stands beyond the buffer
 abbrev pub mark-at : List ℕ → ℕ → ℕ
 mark-at grid p = getD grid p 2
 
@@ -24,9 +28,13 @@ healthy grid p = eqb (mark-at grid p) 0
 abbrev pub faulty : List ℕ → ℕ → Bool
 faulty grid p = faulty-mark (mark-at grid p)
 
--- the marks that a position allows: 0 or 1 at a processor, 2 elsewhere
+abbrev pub dead : List ℕ → ℕ → Bool
+dead grid p = dead-mark (mark-at grid p)
+
+-- the marks that a position allows: 0, 1 or 3 at an inner processor, 0 or 1 at a spare, 2 elsewhere
 abbrev pub allowed-at : ℕ → ℕ → ℕ → ℕ → ℕ → Bool
-allowed-at n m x y mark = cond (processor-at n m x y) (leb mark 1) (eqb mark 2)
+allowed-at n m x y mark =
+    cond (inner-at n m x y) (leb mark 1 || dead-mark mark) (cond (processor-at n m x y) (leb mark 1) (eqb mark 2))
 
 abbrev pub allowed : ℕ → ℕ → ℕ → ℕ → Bool
 allowed n m p mark = allowed-at n m (row p) (column p) mark

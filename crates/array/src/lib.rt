@@ -4,7 +4,7 @@ ghost use mathlib.Core.Bool.{true};
 ghost use Prim.Native.Nat.{_≤_, _<_};
 ghost use lib.ListN.{length};
 ghost use Rattle.array.specs.Place.{size, inner-at, corner-at, processor-at, inner, processor};
-ghost use Rattle.array.specs.Map.{faulty-mark, inner-faulty, allowed-at, marks-test, map-tests};
+ghost use Rattle.array.specs.Map.{dead-mark, faulty-mark, inner-faulty, allowed-at, marks-test, map-tests};
 
 // The refusal of a call: the documents' number, the place and the second place.
 pub struct Refusal {
@@ -80,11 +80,18 @@ pub fn is_processor(n: usize, m: usize, p: usize) -> bool
     is_processor_inner_first(n, m, p / 32, p % 32)
 }
 
+// Whether a mark is that of a dead processor: a fault that conducts nothing.
+pub fn is_dead(mark: u8) -> bool
+    ensures { λ r. ⌜ r ≡ dead-mark mark ⌝ }
+{
+    mark == 3
+}
+
 // Whether a mark counts as faulty.
 pub fn is_faulty(mark: u8) -> bool
     ensures { λ r. ⌜ r ≡ faulty-mark mark ⌝ }
 {
-    mark == 1
+    (mark == 1) | is_dead(mark)
 }
 
 // Whether an inner fault is at p, by its mark.
@@ -98,7 +105,10 @@ fn is_allowed(n: usize, m: usize, x: usize, y: usize, mark: u8) -> bool
     requires { ⌜ (n ≤ 30) × (m ≤ 30) ⌝ }
     ensures { λ r. ⌜ r ≡ allowed-at n m x y mark ⌝ }
 {
-    if is_processor_inner_first(n, m, x, y) {
+    if is_inner_at(n, m, x, y) {
+        return (mark <= 1) | is_dead(mark);
+    }
+    if is_processor_at(n, m, x, y) {
         mark <= 1
     } else {
         mark == 2

@@ -135,6 +135,11 @@ pub fn copy(from: &[u8], to: &mut [u8]) {
     }
 }
 
+// How many faults a grid has, dead ones among them.
+pub fn count_faults(grid: &[u8]) -> usize {
+    count_of(grid, 1) % 1025 + count_of(grid, 3) % 1025
+}
+
 // How many elements have this value.
 pub fn count_of(b: &[u8], value: u8) -> usize {
     let mut count = 0;

@@ -71,6 +71,20 @@ pub const MAP_FILE: usize = 32;
 
 pub const PLAN_FILE: usize = 33;
 
+// Dead processors, and the maps that have one, by outcome.
+pub const DEAD: usize = 34;
+
+pub const DEAD_REPAIRED: usize = 35;
+
+pub const DEAD_BEYOND: usize = 36;
+
+pub const DEAD_SPENT: usize = 37;
+
+// Links to a side without a neighbour, and how many differ.
+pub const ENDS: usize = 38;
+
+pub const END: usize = 39;
+
 pub fn get(tally: &[u64], what: usize) -> u64 {
     if what < tally.len() { tally[what] } else { 0 }
 }
@@ -95,17 +109,17 @@ fn print_number(v: usize) {
     io::print_decimal(STDOUT_FILENO, v as u64);
 }
 
-// Prints the row and column of every fault.
-fn print_faults(grid: &[u8]) {
+// Prints the row and column of everything that has this mark.
+fn print_marked(grid: &[u8], mark: u8) {
     for p in 0..1024 {
-        if buffers::byte(grid, p) == 1 {
+        if buffers::byte(grid, p) == mark {
             print_number(p / 32);
             print_number(p % 32);
         }
     }
 }
 
-// Prints a map: its number, N, M and the faults.
+// Prints a map: its number, N, M, the faults and the dead processors.
 fn print_map(number: u64, n: usize, m: usize, grid: &[u8]) {
     io::write_all(STDOUT_FILENO, b"difference at map ");
     io::print_decimal(STDOUT_FILENO, number);
@@ -113,7 +127,9 @@ fn print_map(number: u64, n: usize, m: usize, grid: &[u8]) {
     print_number(n);
     print_number(m);
     io::write_all(STDOUT_FILENO, b" faults");
-    print_faults(grid);
+    print_marked(grid, 1);
+    io::write_all(STDOUT_FILENO, b" dead");
+    print_marked(grid, 3);
     io::write_all(STDOUT_FILENO, b"\n");
 }
 
@@ -138,11 +154,15 @@ fn print_count(tally: &[u64], word: &[u8], what: usize) {
 fn print_plans(tally: &[u64]) {
     print_count(tally, b"maps", MAPS);
     print_count(tally, b"faults", FAULTS);
+    print_count(tally, b"dead", DEAD);
     print_count(tally, b"repaired", REPAIRED);
     print_count(tally, b"beyond", BEYOND);
     print_count(tally, b"spent", SPENT);
     print_count(tally, b"trials", TRIALS);
     print_count(tally, b"limits tried again", LIMITS);
+    print_count(tally, b"repaired with a dead processor", DEAD_REPAIRED);
+    print_count(tally, b"beyond with a dead processor", DEAD_BEYOND);
+    print_count(tally, b"spent with a dead processor", DEAD_SPENT);
 }
 
 fn print_track(tally: &[u64]) {
@@ -153,6 +173,7 @@ fn print_track(tally: &[u64]) {
     print_count(tally, b"switches at d", LETTERS_D);
     print_count(tally, b"links followed", LINKS);
     print_count(tally, b"pieces of track", PIECES);
+    print_count(tally, b"links without a neighbour", ENDS);
 }
 
 fn print_checks(tally: &[u64]) {
@@ -186,6 +207,7 @@ fn print_track_kinds(tally: &[u64]) {
     print_kind(tally, b"switches", SWITCHES);
     print_kind(tally, b"links", LINK);
     print_kind(tally, b"shared pieces", SHARED);
+    print_kind(tally, b"links without a neighbour", END);
     print_kind(tally, b"map files", MAP_FILE);
     print_kind(tally, b"plan files", PLAN_FILE);
 }

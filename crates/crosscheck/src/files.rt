@@ -11,7 +11,7 @@ fn is_map(n: usize, m: usize, grid: &[u8], file: &[u8], length: usize) -> bool {
         return false;
     }
     let a = readers::read_map(&file[0..length], &mut back);
-    answers::is_head(a, n, m, answers::count_of(grid, 1)) & answers::are_same(grid, &back)
+    answers::is_head(a, n, m, answers::count_faults(grid)) & answers::are_same(grid, &back)
 }
 
 // A map file, written and read back.

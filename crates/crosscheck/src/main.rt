@@ -54,6 +54,13 @@ fn cross_others(seed: &mut u64, n: usize, m: usize, grid: &[u8], tally: &mut [u6
     files::cross_paths(seed, n, m, tally);
 }
 
+// Counts a map and its faults.
+fn count_map(grid: &[u8], tally: &mut [u64]) {
+    counts::add(tally, counts::MAPS, 1);
+    counts::add(tally, counts::FAULTS, answers::count_faults(grid) as u64);
+    counts::add(tally, counts::DEAD, answers::count_of(grid, 3) as u64);
+}
+
 // One map, over room for its directions.
 fn cross_map(
     seed: &mut u64,
@@ -66,8 +73,7 @@ fn cross_map(
     tally: &mut [u64],
 ) {
     let before = counts::get(tally, counts::DIFFERENCES);
-    counts::add(tally, counts::MAPS, 1);
-    counts::add(tally, counts::FAULTS, answers::count_of(grid, 1) as u64);
+    count_map(grid, tally);
     cross_repair(seed, n, m, limit, grid, directions, marks, tally);
     cross_others(seed, n, m, grid, tally);
     counts::show(tally, before, n, m, grid);

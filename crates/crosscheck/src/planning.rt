@@ -61,6 +61,22 @@ fn count_of_outcome(outcome: u8) -> usize {
     }
 }
 
+fn count_of_dead(outcome: u8) -> usize {
+    match outcome {
+        0 => counts::DEAD_REPAIRED,
+        1 => counts::DEAD_BEYOND,
+        _ => counts::DEAD_SPENT,
+    }
+}
+
+// Counts an outcome, once more where the map has a dead processor.
+fn count_outcome(grid: &[u8], outcome: u8, tally: &mut [u64]) {
+    counts::add(tally, count_of_outcome(outcome), 1);
+    if answers::count_of(grid, 3) != 0 {
+        counts::add(tally, count_of_dead(outcome), 1);
+    }
+}
+
 // Both planners, and again with the limits T and T - 1. Answers whether the map is repaired.
 pub fn cross_plan(
     n: usize,
@@ -71,7 +87,7 @@ pub fn cross_plan(
     tally: &mut [u64],
 ) -> bool {
     let a = cross_limit(n, m, grid, directions, limit, tally);
-    counts::add(tally, count_of_outcome(a.outcome), 1);
+    count_outcome(grid, a.outcome, tally);
     counts::add(tally, counts::TRIALS, a.count as u64);
     if 2 <= a.outcome {
         return false;

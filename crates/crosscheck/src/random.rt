@@ -116,10 +116,18 @@ fn fill_blank(n: usize, m: usize, grid: &mut [u8]) {
     }
 }
 
+// The mark of a fault at p: that of a dead processor at an inner position in one case of `share`, in none where that is 0.
+fn draw_mark(seed: &mut u64, share: u8, n: usize, m: usize, p: usize) -> u8 {
+    if (share != 0) & buffers::is_inner(n, m, p) {
+        return if draw(seed, share) == 0 { 3 } else { 1 };
+    }
+    1
+}
+
 // Marks a position faulty where a processor is.
-fn mark_fault(grid: &mut [u8], p: usize) {
+fn mark_fault(grid: &mut [u8], p: usize, mark: u8) {
     if buffers::byte(grid, p) != 2 {
-        buffers::put_byte(grid, p, 1);
+        buffers::put_byte(grid, p, mark);
     }
 }
 
@@ -135,10 +143,31 @@ fn draw_kind(seed: &mut u64, kind: u8) -> u8 {
 }
 
 // One more fault of a map; (x, y) is the middle of a cluster, or gives a line.
-fn add_fault(seed: &mut u64, kind: u8, n: usize, m: usize, x: u8, y: u8, grid: &mut [u8]) {
+fn add_fault(
+    seed: &mut u64,
+    kind: u8,
+    share: u8,
+    n: usize,
+    m: usize,
+    x: u8,
+    y: u8,
+    grid: &mut [u8],
+) {
     let own = draw_kind(seed, kind);
     let p = draw_spot(seed, own, n, m, x, y);
-    mark_fault(grid, p);
+    let mark = draw_mark(seed, share, n, m, p);
+    mark_fault(grid, p, mark);
+}
+
+// How many faults there are for a dead one: in half of the maps none is dead.
+fn draw_share(seed: &mut u64) -> u8 {
+    match draw(seed, 8) {
+        0..=3 => 0,
+        4 => 1,
+        5 => 2,
+        6 => 4,
+        _ => 8,
+    }
 }
 
 // A random map.
@@ -148,8 +177,9 @@ pub fn fill_map(seed: &mut u64, n: usize, m: usize, grid: &mut [u8]) {
     let x = draw_inner(seed, n);
     let y = draw_inner(seed, m);
     let count = draw_count(seed, n, m);
+    let share = draw_share(seed);
     for _ in 0..count {
-        add_fault(seed, kind, n, m, x, y, grid);
+        add_fault(seed, kind, share, n, m, x, y, grid);
     }
 }
 
@@ -165,7 +195,7 @@ fn draw_direction(seed: &mut u64, n: usize, m: usize, grid: &[u8], p: usize) -> 
 }
 
 fn put_choice(seed: &mut u64, n: usize, m: usize, grid: &[u8], p: usize, directions: &mut [u8]) {
-    if buffers::is_inner(n, m, p) & (buffers::byte(grid, p) == 1) {
+    if buffers::is_inner(n, m, p) & buffers::is_fault(grid, p) {
         let d = draw_direction(seed, n, m, grid, p);
         buffers::put_byte(directions, p, d);
     }

@@ -104,7 +104,32 @@ fn is_link(
     (arrived & here) & ((w.side == a.port) & (w.switches == a.switches))
 }
 
-// The link of cell k / 2 by side k % 2, where there is such a cell with a neighbour on that side.
+// Both followers from one cell by a side where it has no neighbour, to wherever the link ends.
+fn is_end(
+    n: usize,
+    m: usize,
+    grid: &[u8],
+    directions: &[u8],
+    across: &[u8],
+    down: &[u8],
+    places: &[u16],
+    cell: usize,
+    side: u8,
+    marks: &mut [u32],
+) -> bool {
+    let a = answers::landed(n, m, grid, directions, across, down, cell, side as usize);
+    let from = buffers::place(places, cell);
+    let w = links::follow(grid, directions, across, down, from, side, marks);
+    let arrived = (w.state == 1) & (w.switches <= 3);
+    let here = (links::position_of(w.node) == a.position) & (w.side == a.port);
+    if a.position < 1024 {
+        arrived & (here & (w.switches == a.switches))
+    } else {
+        !arrived
+    }
+}
+
+// A link to a neighbour.
 fn cross_link(
     n: usize,
     m: usize,
@@ -113,15 +138,11 @@ fn cross_link(
     across: &[u8],
     down: &[u8],
     places: &[u16],
-    k: usize,
+    cell: usize,
+    side: u8,
     marks: &mut [u32],
     tally: &mut [u64],
 ) {
-    let cell = k / 2;
-    let side = (k % 2) as u8;
-    if !(buffers::is_inner(n, m, cell) & buffers::is_inner(n, m, neighbour(cell, side))) {
-        return;
-    }
     let arrives = is_link(
         n,
         m,
@@ -138,8 +159,90 @@ fn cross_link(
     counts::add(tally, counts::LINKS, 1);
 }
 
-// All links to a neighbour.
+// A link to a side without a neighbour. It may enter a dead processor.
+fn cross_end(
+    n: usize,
+    m: usize,
+    grid: &[u8],
+    directions: &[u8],
+    across: &[u8],
+    down: &[u8],
+    places: &[u16],
+    cell: usize,
+    side: u8,
+    marks: &mut [u32],
+    tally: &mut [u64],
+) {
+    let same = is_end(
+        n,
+        m,
+        grid,
+        directions,
+        across,
+        down,
+        places,
+        cell,
+        side,
+        marks,
+    );
+    compare(tally, same, counts::END);
+    counts::add(tally, counts::ENDS, 1);
+}
+
+// The link of cell k / 2 by side k % 2, where there is such a cell, and a neighbour on that side or none, as is asked.
+fn cross_side(
+    beside: bool,
+    n: usize,
+    m: usize,
+    grid: &[u8],
+    directions: &[u8],
+    across: &[u8],
+    down: &[u8],
+    places: &[u16],
+    k: usize,
+    marks: &mut [u32],
+    tally: &mut [u64],
+) {
+    let cell = k / 2;
+    let side = (k % 2) as u8;
+    let has = buffers::is_inner(n, m, neighbour(cell, side));
+    if !buffers::is_inner(n, m, cell) | (has != beside) {
+        return;
+    }
+    if beside {
+        cross_link(
+            n,
+            m,
+            grid,
+            directions,
+            across,
+            down,
+            places,
+            cell,
+            side,
+            marks,
+            tally,
+        );
+        return;
+    }
+    cross_end(
+        n,
+        m,
+        grid,
+        directions,
+        across,
+        down,
+        places,
+        cell,
+        side,
+        marks,
+        tally,
+    );
+}
+
+// All links to a neighbour, or all to a side without one.
 fn cross_links(
+    beside: bool,
     n: usize,
     m: usize,
     grid: &[u8],
@@ -151,7 +254,8 @@ fn cross_links(
     tally: &mut [u64],
 ) {
     for k in 0..2048 {
-        cross_link(
+        cross_side(
+            beside,
             n,
             m,
             grid,
@@ -179,9 +283,47 @@ fn cross_pieces(
     tally: &mut [u64],
 ) {
     links::begin(marks);
-    cross_links(n, m, grid, directions, across, down, places, marks, tally);
+    cross_links(
+        true,
+        n,
+        m,
+        grid,
+        directions,
+        across,
+        down,
+        places,
+        marks,
+        tally,
+    );
     compare(tally, links::shared(marks) == 0, counts::SHARED);
     counts::add(tally, counts::PIECES, links::pieces(marks) as u64);
+}
+
+// All links, first those to neighbours, whose pieces are compared.
+fn cross_tracks(
+    n: usize,
+    m: usize,
+    grid: &[u8],
+    directions: &[u8],
+    across: &[u8],
+    down: &[u8],
+    places: &[u16],
+    marks: &mut [u32],
+    tally: &mut [u64],
+) {
+    cross_pieces(n, m, grid, directions, across, down, places, marks, tally);
+    cross_links(
+        false,
+        n,
+        m,
+        grid,
+        directions,
+        across,
+        down,
+        places,
+        marks,
+        tally,
+    );
 }
 
 // A repaired map: placement, switches and links.
@@ -198,7 +340,7 @@ pub fn cross_track(
     let mut down = [9u8; 1024];
     cross_cells(n, m, grid, directions, &mut places, tally);
     cross_switches(n, m, grid, directions, &mut across, &mut down, tally);
-    cross_pieces(
+    cross_tracks(
         n,
         m,
         grid,

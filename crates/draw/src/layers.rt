@@ -133,8 +133,11 @@ fn head(n: usize, m: usize, p: usize, d: u8) {
     }
 }
 
-// The second letter of the symbol of a fault, by what its path joins.
-fn joined(direction: u8) -> u8 {
+// The second letter of the symbol of a fault: dead, or by what its path joins.
+fn joined(mark: u8, direction: u8) -> u8 {
+    if array::is_dead(mark) {
+        return b'd';
+    }
     match direction {
         0 => b'o',
         1 | 2 => b'v',
@@ -142,10 +145,10 @@ fn joined(direction: u8) -> u8 {
     }
 }
 
-// The processor at p: inner, spare, or a fault with what its path joins.
+// The processor at p: inner, spare, or a fault, dead or with what its path joins.
 fn processor(n: usize, m: usize, mark: u8, direction: u8, p: usize) {
     if array::is_faulty(mark) {
-        symbol(b'f', joined(direction), p);
+        symbol(b'f', joined(mark, direction), p);
     }
     if mark == 0 {
         if array::is_inner(n, m, p) {
@@ -226,7 +229,7 @@ fn item(
         Layer::Processors => processor(n, m, wafer::get(grid, p, 2), direction, p),
         Layer::Moved => moved(p, place),
         Layer::Switches => switches(m, grid, across, down, p),
-        Layer::Links(h) => links::cell_link(n, m, directions, place, across, down, p, h),
+        Layer::Links(h) => links::cell_link(n, m, grid, directions, place, across, down, p, h),
         Layer::Cells => cell(p, place),
     }
 }

@@ -80,8 +80,11 @@ fn heading_after(down: bool, letter: u8, heading: u8) -> u8 {
     }
 }
 
-// The heading after a processor: a fault joins the ends of its path's axis, and any other processor ends a link.
-fn heading_through(direction: u8, heading: u8) -> u8 {
+// The heading after a processor: a fault joins the ends of its path's axis, but a dead one and any other processor ends a link.
+fn heading_through(mark: u8, direction: u8, heading: u8) -> u8 {
+    if array::is_dead(mark) {
+        return 4;
+    }
     match direction {
         1 | 2 => if 2 <= heading { heading } else { 4 },
         3 | 4 => if heading < 2 { heading } else { 4 },
@@ -101,6 +104,7 @@ fn filed_under(row: usize, column: usize) -> usize {
 
 // The heading after what stands at a point of the lattice.
 fn heading_at(
+    grid: &[u8],
     directions: &[u8],
     across: &[u8],
     down: &[u8],
@@ -111,7 +115,11 @@ fn heading_at(
     let p = filed_under(row, column);
     if row % 2 == 0 {
         if column % 2 == 0 {
-            return heading_through(wafer::get(directions, p, 0), heading);
+            return heading_through(
+                wafer::get(grid, p, 2),
+                wafer::get(directions, p, 0),
+                heading,
+            );
         }
         return heading_after(false, wafer::get(across, p, 0), heading);
     }
@@ -158,7 +166,7 @@ fn inside(half: usize, from: u8, to: u8) {
 }
 
 // A link drawn one point further.
-fn advance(directions: &[u8], across: &[u8], down: &[u8], w: Walk) -> Walk {
+fn advance(grid: &[u8], directions: &[u8], across: &[u8], down: &[u8], w: Walk) -> Walk {
     let heading = w.heading;
     if heading == 4 {
         return w;
@@ -167,7 +175,7 @@ fn advance(directions: &[u8], across: &[u8], down: &[u8], w: Walk) -> Walk {
     let column = step(w.column, heading, 0, 1);
     let half = reach(row, column);
     line(heading, track_length(reach(w.row, w.column), half));
-    let turned = heading_at(directions, across, down, row, column, heading);
+    let turned = heading_at(grid, directions, across, down, row, column, heading);
     inside(half, heading, turned);
     Walk {
         row,
@@ -193,7 +201,7 @@ fn port(from: usize, heading: u8) {
 }
 
 // The link that leaves the processor at `from` heading east or south. Sixteen points are more than a link over three switches has.
-fn link(directions: &[u8], across: &[u8], down: &[u8], from: usize, heading: u8) {
+fn link(grid: &[u8], directions: &[u8], across: &[u8], down: &[u8], from: usize, heading: u8) {
     port(from, heading);
     let mut w = Walk {
         row: 2 * (from / 32),
@@ -202,7 +210,7 @@ fn link(directions: &[u8], across: &[u8], down: &[u8], from: usize, heading: u8)
     };
     let mut left: usize = 16;
     while 0 < left {
-        w = advance(directions, across, down, w);
+        w = advance(grid, directions, across, down, w);
         left -= 1;
     }
 }
@@ -219,6 +227,7 @@ fn has_neighbour(n: usize, m: usize, p: usize, heading: u8) -> bool {
 pub fn cell_link(
     n: usize,
     m: usize,
+    grid: &[u8],
     directions: &[u8],
     place: usize,
     across: &[u8],
@@ -227,6 +236,6 @@ pub fn cell_link(
     heading: u8,
 ) {
     if has_neighbour(n, m, p, heading) & (place != 0) {
-        link(directions, across, down, place, heading);
+        link(grid, directions, across, down, place, heading);
     }
 }

@@ -72,7 +72,7 @@ fn extent(margin: u16, k: usize, least: usize) -> usize {
 
 // The least height of a picture, which the legend of a plan needs.
 fn least_height(planned: bool) -> usize {
-    if planned { 470 } else { 0 }
+    if planned { 503 } else { 0 }
 }
 
 // The beginning of the picture of a map: its symbols, title and legend.

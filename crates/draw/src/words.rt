@@ -3,7 +3,7 @@ use crate::output;
 
 // The styles of text (t title, g legend, n numbers along the edge, e letters, c cells, m moved cells), of lines (u tracks, j joins, l links),
 // of paths by direction (b bands, h arrowheads, o processors with moved cells), of processors (p inner, s spare, f fault, x its cross, k what
-// it joins) and of switches (w); and a white ground.
+// it joins, d dead, z its ring) and of switches (w); and a white ground.
 fn styles() {
     output::text(
         b"<style type='text/css'>
@@ -29,6 +29,8 @@ text{font-family:sans-serif;fill:#222}
 .f{fill:#7a0c12;stroke:#4d0509;stroke-width:1.5}
 .x{fill:none;stroke:#e8a0a0;stroke-width:3}
 .k{fill:none;stroke:#f6dede;stroke-width:6}
+.d{fill:#161616;stroke:#000;stroke-width:1.5}
+.z{fill:none;stroke:#fff;stroke-width:3}
 .w{fill:#fff;stroke:#9a9a9a}
 </style>
 <rect width='100%' height='100%' fill='#fff'/>
@@ -36,9 +38,9 @@ text{font-family:sans-serif;fill:#222}
     );
 }
 
-// The symbols of processors: inner, spare, a fault that joins nothing, its N and S, or its W and E, one with a moved cell, by
-// direction; the arrow of the legend; and the symbols of across and down switches, by their letters, at the processor under which they are
-// filed.
+// The symbols of processors: inner, spare, a fault that joins nothing, its N and S, or its W and E, a dead one, one with a moved
+// cell, by direction; the arrow of the legend; and the symbols of across and down switches, by their letters, at the processor under which
+// they are filed.
 pub fn symbols() {
     output::text(
         b"<defs>
@@ -48,6 +50,7 @@ pub fn symbols() {
 <g id='fo'><use xlink:href='#q' class='f'/><path class='x' d='M-11-11 11 11M11-11-11 11'/></g>
 <g id='fv'><use xlink:href='#fo'/><path class='k' d='M0-20V20'/></g>
 <g id='fh'><use xlink:href='#fo'/><path class='k' d='M-20 0H20'/></g>
+<g id='fd'><use xlink:href='#q' class='d'/><circle class='z' r='12'/><path class='z' d='M-8 8 8-8'/></g>
 <use id='mS' xlink:href='#q' class='o S'/>
 <use id='mN' xlink:href='#q' class='o N'/>
 <use id='mE' xlink:href='#q' class='o E'/>
@@ -87,24 +90,24 @@ version='1.1' width='@' height='@' viewBox='0 0 @ @'>
 // The legend of what only a plan has: paths, cells, switches and tracks.
 fn plan_rows() {
     output::text(
-        b"<use xlink:href='#ar' class='S' transform='translate(0 132) scale(.7)'/>
-<text class='g' x='26' y='137'>path to the south</text>
-<use xlink:href='#ar' class='N' transform='translate(0 165) rotate(180) scale(.7)'/>
-<text class='g' x='26' y='170'>path to the north</text>
-<use xlink:href='#ar' class='E' transform='translate(0 198) rotate(-90) scale(.7)'/>
-<text class='g' x='26' y='203'>path to the east</text>
-<use xlink:href='#ar' class='W' transform='translate(0 231) rotate(90) scale(.7)'/>
-<text class='g' x='26' y='236'>path to the west</text>
-<g class='c' transform='translate(0 66) scale(.7)'><use xlink:href='#mS'/><text class='m' y='4'>2,1</text></g>
-<text class='g' x='26' y='71'>cell that moved</text>
-<g class='c' transform='translate(0 99) scale(.7)'><use xlink:href='#pi'/><text y='4'>1,2</text></g>
-<text class='g' x='26' y='104'>cell in its own place</text>
-<use xlink:href='#ac' transform='translate(-36 266)'/>
-<text class='g' x='26' y='269'>switch with its letter</text>
-<path class='l' d='M-14 297H14'/>
-<text class='g' x='26' y='302'>link</text>
-<path class='u' d='M-14 330H14'/>
-<text class='g' x='26' y='335'>track not in use</text>
+        b"<use xlink:href='#ar' class='S' transform='translate(0 165) scale(.7)'/>
+<text class='g' x='26' y='170'>path to the south</text>
+<use xlink:href='#ar' class='N' transform='translate(0 198) rotate(180) scale(.7)'/>
+<text class='g' x='26' y='203'>path to the north</text>
+<use xlink:href='#ar' class='E' transform='translate(0 231) rotate(-90) scale(.7)'/>
+<text class='g' x='26' y='236'>path to the east</text>
+<use xlink:href='#ar' class='W' transform='translate(0 264) rotate(90) scale(.7)'/>
+<text class='g' x='26' y='269'>path to the west</text>
+<g class='c' transform='translate(0 99) scale(.7)'><use xlink:href='#mS'/><text class='m' y='4'>2,1</text></g>
+<text class='g' x='26' y='104'>cell that moved</text>
+<g class='c' transform='translate(0 132) scale(.7)'><use xlink:href='#pi'/><text y='4'>1,2</text></g>
+<text class='g' x='26' y='137'>cell in its own place</text>
+<use xlink:href='#ac' transform='translate(-36 299)'/>
+<text class='g' x='26' y='302'>switch with its letter</text>
+<path class='l' d='M-14 330H14'/>
+<text class='g' x='26' y='335'>link</text>
+<path class='u' d='M-14 363H14'/>
+<text class='g' x='26' y='368'>track not in use</text>
 ",
     );
 }
@@ -115,8 +118,10 @@ pub fn legend(x: usize, planned: bool) {
         b"<g transform='translate(@ 100)'>
 <use xlink:href='#fo' transform='scale(.7)'/>
 <text class='g' x='26' y='5'>fault</text>
-<use xlink:href='#sp' transform='translate(0 33) scale(.7)'/>
-<text class='g' x='26' y='38'>spare</text>
+<use xlink:href='#fd' transform='translate(0 33) scale(.7)'/>
+<text class='g' x='26' y='38'>dead processor</text>
+<use xlink:href='#sp' transform='translate(0 66) scale(.7)'/>
+<text class='g' x='26' y='71'>spare</text>
 ",
         &[x],
     );
@@ -134,8 +139,9 @@ pub fn reason(number: u8) {
         9 => output::text(b"a number is longer than two bytes or not in its shortest form"),
         10 => output::text(b"a fault is at a place without a processor"),
         11 => output::text(b"a fault is listed a second time"),
-        12 => output::text(b"bytes follow the last fault"),
+        12 => output::text(b"bytes follow the last place, or a second count is 0"),
         19 => output::text(b"the faults are not in row order"),
+        20 => output::text(b"a dead processor is not inside the array"),
         _ => output::text(b"this is not a map"),
     }
 }

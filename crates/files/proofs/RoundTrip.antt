@@ -3,36 +3,44 @@
 use Prim.Native.Nat.{ℕ, suc, _+_, _<_, _≤_}
 use mathlib.Core.Path.{_≡_, refl, sym, ap, _∙_}
 use mathlib.Core.Bool.{true, false}
+use mathlib.Core.Logic.{inl, inr, ⊎-elim}
 use mathlib.Core.List.{List, [], _∷_, _++_, append-assoc, append-nil}
+use native.Mathlib.Nat.{add-zero}
 use native.Mathlib.Omega.{arith}
 use lib.ListN.{length, getD, set, take, drop, length-append, length-set}
-use borrow.Author.Tests.{le-leb}
+use borrow.Author.Tests.{le-leb, eqb-true}
 use lib.Seq.{set-at, getD-at, append-snoc, take-append-seam}
 use Rattle.array.specs.Place.{row, column, position, size}
-use Rattle.array.specs.Buffer.{span, positions-along}
-use Rattle.array.specs.Tests.{first-along}
+use Rattle.array.specs.Buffer.{buffer, positions-along}
+use Rattle.array.specs.Map.{dead-mark, allowed}
 use Rattle.array.specs.declared.Verdict.{Verdict}
 use Rattle.array.specs.declared.Verdict.the-variants.{Accepted, Refused}
-use Rattle.array.proofs.Bools.{by-bool, by-lt, and-both}
-use Rattle.array.proofs.Verdicts.{both-accepted}
+use Rattle.array.proofs.Bools.{by-bool, by-eq, by-lt, and-both}
+use Rattle.array.proofs.Verdicts.{accepted-not}
+use Rattle.array.proofs.Scans.{scan-each, buffer-scan}
+use Rattle.array.proofs.Fills.{tabulate-length, tabulate-at}
 use Rattle.array.proofs.Filters.{positions-short}
 use Rattle.formats.specs.Number.{number-at, bytes-of}
-use Rattle.formats.specs.Records.{recorded, record-bytes, records-along, record-count, file-bytes, blank}
+use Rattle.formats.specs.Records.{recorded, record-bytes, records-along, record-count, list-bytes, first-list, second-list, file-bytes, file-count, blank}
 use Rattle.formats.specs.declared.Number.the-variants.{Read}
 use Rattle.formats.specs.declared.Kind.{Kind}
+use Rattle.formats.specs.declared.Kind.the-variants.{Map, Plan}
+use Rattle.formats.specs.declared.Record.{Record}
+use Rattle.formats.specs.declared.Record.the-variants.{Fault, Dead, Path}
 use Rattle.formats.proofs.Trip.{read-written, read-at}
-use Rattle.readers.specs.Reading.{record-at, records-at, whole-file, read-file}
-use Rattle.readers.specs.Parts.{blank-mark}
-use Rattle.readers.specs.declared.Head.{Head}
+use Rattle.readers.specs.Reading.{record-at, records-at, read-file}
+use Rattle.readers.specs.Parts.{repeated}
 use Rattle.readers.specs.declared.Step.{Step}
 use Rattle.readers.specs.declared.Step.the-variants.{Next}
-use Rattle.readers.proofs.Cases.{blank-is, blank-length, record-marked, marked-in-order, in-order, more-suc, none-left, size-good, head-read, whole-read}
+use Rattle.readers.proofs.Cases.{blank-length, blank-at, record-marked, marked-in-order, in-order, more-suc, none-left, size-good}
+use Rattle.readers.proofs.Taken.{List-taken, Ended, Second-taken, Rest-taken, File-taken, taken-file}
 use Rattle.writers.specs.Writing.{buffer-test, write-file}
-use Rattle.writers.specs.Parts.{value-bytes}
+use Rattle.writers.specs.Parts.{value-bytes, records-of}
 use Rattle.writers.specs.declared.FileWritten.{FileWritten}
 use Rattle.writers.proofs.Accepted.{element-test, Passed, passed, file-refused, file-accepted, put-short, put-whole}
+use Rattle.writers.proofs.Records.{dead-some}
 use Rattle.files.specs.RoundTrip.{Round-trip}
-use Rattle.files.proofs.Elements.{Kept, kept, unkept, blank-free, value-read, along-some, along-none, count-some, count-none}
+use Rattle.files.proofs.Elements.{Read-in, Turned, alive, value-recorded, fault-turned, dead-turned, path-turned, value-read, along-some, along-none, count-some, count-none, same-records}
 use Rattle.readers.specs.declared.FileRead.the-variants as read
 use Rattle.writers.specs.declared.FileWritten.the-variants as written
 
@@ -40,29 +48,20 @@ number-unchanged : (v : ℕ) (before after : List ℕ) → v < 16384
     → number-at (before ++ (bytes-of v ++ after)) (length before) ≡ Read v (length (before ++ bytes-of v))
 number-unchanged v before after h = read-written before v after h ∙ ap (λ (k : ℕ). Read v k) (sym (length-append before (bytes-of v)))
 
-module _ (kind : Kind) (n m : ℕ) where
+module _ (kind : Record) (n m : ℕ) where
   abbrev records : ℕ → List ℕ → List ℕ
   records p xs = records-along (recorded kind) (record-bytes kind) p xs
 
   abbrev count : ℕ → List ℕ → ℕ
   count p xs = length (positions-along (recorded kind) p xs)
 
-  abbrev blanks : ℕ → ℕ → List ℕ
-  blanks p k = span (blank-mark kind n m) p k
-
-  heads :
-      (p x : ℕ) (xs : List ℕ) →
-      first-along (element-test kind n m) p (x ∷ xs) ≡ Accepted →
-      (element-test kind n m p x ≡ Accepted) × (first-along (element-test kind n m) (suc p) xs ≡ Accepted)
-  unfolding first-along
-  heads p x xs h = both-accepted _ _ h
-
-  -- The record of an element x at p, which stands behind `front`, is read into a buffer that is `done` before p and blank from there on.
+  -- The record of an element x at p, which stands behind `front`, is read into a buffer that is `done` before p and has z
+  -- there.
   module _
-      (small : (n ≤ 30) × (m ≤ 30)) (s front rest done ys : List ℕ) (p x at before : ℕ) (g : List ℕ)
+      (small : (n ≤ 30) × (m ≤ 30)) (s front rest done ys : List ℕ) (p x z at before : ℕ) (g : List ℕ)
       (es : s ≡ front ++ (bytes-of (row p) ++ (bytes-of (column p) ++ (value-bytes kind x ++ rest))))
-      (ea : at ≡ length front) (eg : g ≡ done ++ blank-mark kind n m p ∷ ys) (ed : length done ≡ p) (lg : length g ≡ 1024) (lp : p < 1024)
-      (lb : before ≤ p) (good : Kept kind n m p x)
+      (ea : at ≡ length front) (eg : g ≡ done ++ z ∷ ys) (ed : length done ≡ p) (lg : length g ≡ 1024) (lp : p < 1024)
+      (lb : before ≤ p) (good : Read-in kind n m p z x)
     where
       abbrev row-end : List ℕ
       row-end = front ++ bytes-of (row p)
@@ -91,17 +90,14 @@ module _ (kind : Kind) (n m : ℕ) where
       here : position (row p) (column p) ≡ p
       here = omega arith
 
-      found : getD g (position (row p) (column p)) 0 ≡ blank-mark kind n m p
-      found = rw (eg, here) (getD-at done (blank-mark kind n m p) ys 0 p ed)
+      found : getD g (position (row p) (column p)) 0 ≡ z
+      found = rw (eg, here) (getD-at done z ys 0 p ed)
 
       stored : set g (position (row p) (column p)) x ≡ (done ++ (x ∷ [])) ++ ys
-      stored = rw (eg, here) (set-at done (blank-mark kind n m p) ys x p ed ∙ sym (append-snoc done x ys))
+      stored = rw (eg, here) (set-at done z ys x p ed ∙ sym (append-snoc done x ys))
 
-      free : recorded kind (position (row p) (column p)) (getD g (position (row p) (column p)) 0) ≡ false
-      free =
-          ap (λ (z : ℕ). recorded kind (position (row p) (column p)) z) found
-          ∙ ap (λ (z : ℕ). recorded kind z (blank-mark kind n m p)) here
-          ∙ blank-free kind n m p
+      free : repeated kind (getD g (position (row p) (column p)) 0) ≡ false
+      free = ap (repeated kind) found ∙ good .free
 
       record-read : record-at kind s n m at before g ≡ (Next (length value-end) p, (done ++ (x ∷ [])) ++ ys)
       record-read =
@@ -116,71 +112,122 @@ module _ (kind : Kind) (n m : ℕ) where
           ∙ ap (λ (q : ℕ). (Next (length value-end) q, set g (position (row p) (column p)) x)) here
           ∙ ap (λ (l : List ℕ). (Next (length value-end) p, l)) stored
 
-  -- The records of the elements xs, which stand from p on, are read from where they start to the end of the file, into a buffer that is
-  -- whole before p and blank from there on, after a record that is no higher than p.
-  module _ (small : (n ≤ 30) × (m ≤ 30)) (s whole : List ℕ) (head : Head) (lent : List ℕ) where
+  -- The records of the elements xs from p on are read, from where they start to their end, into a buffer that is whole before
+  -- p and has zs from there on, after a record that is no higher than p.
+  module _ (small : (n ≤ 30) × (m ≤ 30)) (s rest whole : List ℕ) (end : ℕ) (el : end + length rest ≡ length s) where
+    record Walked (k at before : ℕ) (g : List ℕ) : Type 0 where
+      last : ℕ
+      read : records-at kind s n m k at before g ≡ (Next end last, whole)
+
     walk :
-        (xs front done : List ℕ) (p at before : ℕ) (g : List ℕ) →
-        s ≡ front ++ records p xs →
+        (zs xs front done : List ℕ) (p at before : ℕ) (g : List ℕ) →
+        s ≡ front ++ (records p xs ++ rest) →
         at ≡ length front →
-        g ≡ done ++ blanks p (length xs) →
+        g ≡ done ++ zs →
         whole ≡ done ++ xs →
         length done ≡ p →
         length g ≡ 1024 →
-        p + length xs ≤ 1024 →
+        length zs ≡ length xs →
         before ≤ p →
-        first-along (element-test kind n m) p xs ≡ Accepted →
-        whole-file s head lent (records-at kind s n m (count p xs) at before g) ≡ (read.File head, whole)
-    unfolding records-along positions-along span
-    walk [] front done p at before g es ea eg er ed lg l lb a =
-        let f : length s ≡ length front = ap length es ∙ ap length (append-nil front) in
-        whole-read s head lent at before g (none-left kind s n m at before g) (omega arith) ∙ ap (λ (b : List ℕ). (read.File head, b)) (eg ∙ sym er)
-    walk (x ∷ xs) front done p at before g es ea eg er ed lg l lb a =
-        let t = heads p x xs a in
+        ((j q : ℕ) → q ≡ p + j → j < length xs → Turned kind n m q (getD zs j 0) (getD xs j 0)) →
+        Walked (count p xs) at before g
+    unfolding records-along positions-along
+    walk [] (x ∷ xs) front done p at before g es ea eg er ed lg lz lb f = absurd (omega arith)
+    walk (z ∷ zs) [] front done p at before g es ea eg er ed lg lz lb f = absurd (omega arith)
+    walk [] [] front done p at before g es ea eg er ed lg lz lb f =
+        let e : at ≡ end = omega (arith, el, ap length es, length-append front rest) in
+        record { last = before; read = none-left kind s n m at before g ∙ rw e (ap (λ (b : List ℕ). (Next end before, b)) (eg ∙ sym er)) }
+    walk (z ∷ zs) (x ∷ xs) front done p at before g es ea eg er ed lg lz lb f =
         let er′ : whole ≡ (done ++ (x ∷ [])) ++ xs = er ∙ sym (append-snoc done x xs) in
         let ed′ : length (done ++ (x ∷ [])) ≡ suc p = omega (arith, length-append done (x ∷ [])) in
-        let ys : List ℕ = blanks (suc p) (length xs) in
-        by-bool (recorded kind p x)
-        (λ e.
-        let k = kept n m p x kind (t .0) e in
+        let lp : p < 1024 = omega (arith, lg, ap length eg, length-append done (z ∷ zs)) in
+        let on : (j q : ℕ) → q ≡ suc p + j → j < length xs → Turned kind n m q (getD zs j 0) (getD xs j 0) =
+        λ j q e l. f (suc j) q (omega arith) (omega arith) in
+        ⊎-elim
+        (λ (k : Read-in kind n m p z x).
+        let e = value-recorded kind p x (k .value) in
         let next : List ℕ = ((front ++ bytes-of (row p)) ++ bytes-of (column p)) ++ value-bytes kind x in
-        let es′ = es ∙ ap (λ (z : List ℕ). front ++ z) (along-some kind p x xs e) in
-        let lg′ : length ((done ++ (x ∷ [])) ++ ys) ≡ 1024 =
-        ap length (sym (stored small s front _ done ys p x at before g es′ ea eg ed lg (omega arith) lb k)) ∙ length-set g _ x ∙ lg in
-        ap (λ (j : ℕ). whole-file s head lent (records-at kind s n m j at before g)) (count-some kind p x xs e)
-        ∙ ap (λ (r : Step × List ℕ). whole-file s head lent r)
-        (more-suc kind s n m _ at before g _ _ _ (record-read small s front _ done ys p x at before g es′ ea eg ed lg (omega arith) lb k))
-        ∙ walk xs next (done ++ (x ∷ [])) (suc p) (length next) p ((done ++ (x ∷ [])) ++ ys)
-        (after-value small s front _ done ys p x at before g es′ ea eg ed lg (omega arith) lb k) refl refl er′ ed′ lg′ (omega arith) (omega arith)
-        (t .1))
-        (λ e.
-        let es′ = es ∙ ap (λ (z : List ℕ). front ++ z) (along-none kind p x xs e) in
-        let eg′ : g ≡ (done ++ (x ∷ [])) ++ ys =
-        eg ∙ ap (λ (z : ℕ). done ++ (z ∷ ys)) (unkept n m p x kind (t .0) e) ∙ sym (append-snoc done x ys) in
-        ap (λ (j : ℕ). whole-file s head lent (records-at kind s n m j at before g)) (count-none kind p x xs e)
-        ∙ walk xs front (done ++ (x ∷ [])) (suc p) at before g es′ ea eg′ er′ ed′ lg (omega arith) (omega arith) (t .1))
+        let es′ = es ∙ ap (λ (l : List ℕ). front ++ l) (along-some kind p x xs rest e) in
+        let lg′ : length ((done ++ (x ∷ [])) ++ zs) ≡ 1024 =
+        ap length (sym (stored small s front _ done zs p x z at before g es′ ea eg ed lg lp lb k)) ∙ length-set g _ x ∙ lg in
+        let w =
+        walk zs xs next (done ++ (x ∷ [])) (suc p) (length next) p ((done ++ (x ∷ [])) ++ zs)
+        (after-value small s front _ done zs p x z at before g es′ ea eg ed lg lp lb k) refl refl er′ ed′ lg′ (omega arith) (omega arith) on in
+        record {
+          last = w .last;
+          read =
+              ap (λ (j : ℕ). records-at kind s n m j at before g) (count-some kind p x xs e)
+              ∙ more-suc kind s n m _ at before g _ _ _ (record-read small s front _ done zs p x z at before g es′ ea eg ed lg lp lb k)
+              ∙ w .read;
+        })
+        (λ (k : (recorded kind p x ≡ false) × (z ≡ x)).
+        let es′ = es ∙ ap (λ (l : List ℕ). front ++ l) (along-none kind p x xs rest (k .0)) in
+        let eg′ : g ≡ (done ++ (x ∷ [])) ++ zs = eg ∙ ap (λ (y : ℕ). done ++ (y ∷ zs)) (k .1) ∙ sym (append-snoc done x zs) in
+        let w = walk zs xs front (done ++ (x ∷ [])) (suc p) at before g es′ ea eg′ er′ ed′ lg (omega arith) (omega arith) on in
+        record {
+          last = w .last;
+          read = ap (λ (j : ℕ). records-at kind s n m j at before g) (count-none kind p x xs (k .0)) ∙ w .read;
+        })
+        (f 0 p (omega arith) (omega arith))
 
-  -- The file of an accepted buffer is read as that buffer.
-  module _ (b lent : List ℕ) (w : length lent ≡ 1024) (p : Passed kind n m b) where
-    abbrev file : List ℕ
-    file = file-bytes kind n m b
+  -- A list of records that stands behind `front` is read: the buffer a becomes b.
+  list-read :
+      (n ≤ 30) × (m ≤ 30) →
+      (s front rest a b : List ℕ) →
+      s ≡ front ++ (records-of kind b ++ rest) →
+      length a ≡ 1024 →
+      length b ≡ 1024 →
+      ((q : ℕ) → q < 1024 → Turned kind n m q (getD a q 0) (getD b q 0)) →
+      List-taken kind s n m (record-count kind b) (length front) (length (front ++ records-of kind b)) a b
+  unfolding record-count
+  list-read small s front rest a b es la lb f =
+      let e = ap length (es ∙ sym (append-assoc front (records-of kind b) rest)) ∙ length-append (front ++ records-of kind b) rest in
+      let w =
+      walk small s rest b (length (front ++ records-of kind b)) (sym e) a b front [] 0 (length front) 0 a es refl refl refl refl la (la ∙ sym lb)
+      (omega arith) (λ j q i l. let o : q ≡ j = omega arith in rw o (f j (omega arith))) in
+      record { last = w .last; records-read = w .read }
 
-    abbrev tally : List ℕ
-    tally = bytes-of (record-count kind b)
+-- The file of an accepted buffer is read as that buffer.
+module _ (kind : Kind) (n m : ℕ) (b : List ℕ) where
+  abbrev file : List ℕ
+  file = file-bytes kind n m b
 
-    after-rows : file ≡ bytes-of n ++ (bytes-of m ++ (tally ++ records 0 b))
-    unfolding file-bytes
-    after-rows = refl
+  abbrev first : Record
+  first = first-list kind
 
-    after-columns : file ≡ (bytes-of n ++ bytes-of m) ++ (tally ++ records 0 b)
-    after-columns = after-rows ∙ sym (append-assoc (bytes-of n) (bytes-of m) (tally ++ records 0 b))
+  abbrev tally : List ℕ
+  tally = bytes-of (record-count first b)
 
-    after-tally : file ≡ ((bytes-of n ++ bytes-of m) ++ tally) ++ records 0 b
-    after-tally = after-columns ∙ sym (append-assoc (bytes-of n ++ bytes-of m) tally (records 0 b))
+  -- what stands before the records of the first list, and before what follows them
+  abbrev front : List ℕ
+  front = (bytes-of n ++ bytes-of m) ++ tally
 
-    few : record-count kind b < 16384
+  abbrev listed : List ℕ
+  listed = front ++ records-of first b
+
+  after-rows : file ≡ bytes-of n ++ (bytes-of m ++ (list-bytes first b ++ second-list kind b))
+  unfolding file-bytes
+  after-rows = refl
+
+  after-columns : file ≡ (bytes-of n ++ bytes-of m) ++ (tally ++ (records-of first b ++ second-list kind b))
+  after-columns =
+      after-rows
+      ∙ sym (append-assoc (bytes-of n) (bytes-of m) (list-bytes first b ++ second-list kind b))
+      ∙ ap (λ (l : List ℕ). (bytes-of n ++ bytes-of m) ++ l) (append-assoc tally (records-of first b) (second-list kind b))
+
+  after-tally : file ≡ front ++ (records-of first b ++ second-list kind b)
+  after-tally = after-columns ∙ sym (append-assoc (bytes-of n ++ bytes-of m) tally _)
+
+  after-list : file ≡ listed ++ second-list kind b
+  after-list = after-tally ∙ sym (append-assoc front (records-of first b) (second-list kind b))
+
+  ends-listed : second-list kind b ≡ [] → length file ≤ length listed
+  ends-listed e = omega (arith, ap length after-list, length-append listed (second-list kind b), ap length e)
+
+  module _ (p : Passed kind n m b) where
+    few : (r : Record) → record-count r b < 16384
     unfolding record-count
-    few = let l : length b ≡ 1024 = p .is-long in omega (arith, positions-short (recorded kind) b)
+    few r = let l : length b ≡ 1024 = p .is-long in omega (arith, positions-short (recorded r) b)
 
     rows-read : number-at file 0 ≡ Read n (length (bytes-of n))
     rows-read =
@@ -188,11 +235,13 @@ module _ (kind : Kind) (n m : ℕ) where
 
     columns-read : number-at file (length (bytes-of n)) ≡ Read m (length (bytes-of n ++ bytes-of m))
     columns-read =
-        read-at file (bytes-of n) _ m _ _ after-rows refl (length-append (bytes-of n) (bytes-of m)) (omega (arith, p .sizes .columns-high))
+        read-at file (bytes-of n) _ m _ _ after-rows refl (length-append (bytes-of n) (bytes-of m))
+        (omega (arith, p .sizes .columns-high))
 
-    tally-read : number-at file (length (bytes-of n ++ bytes-of m)) ≡ Read (record-count kind b) (length ((bytes-of n ++ bytes-of m) ++ tally))
+    tally-read : number-at file (length (bytes-of n ++ bytes-of m)) ≡ Read (record-count first b) (length front)
     tally-read =
-        read-at file (bytes-of n ++ bytes-of m) _ (record-count kind b) _ _ after-columns refl (length-append (bytes-of n ++ bytes-of m) tally) few
+        read-at file (bytes-of n ++ bytes-of m) _ (record-count first b) _ _ after-columns refl
+        (length-append (bytes-of n ++ bytes-of m) tally) (few first)
 
     sizes : (size n ≡ true) × (size m ≡ true)
     sizes = let s = p .sizes in (
@@ -200,23 +249,116 @@ module _ (kind : Kind) (n m : ℕ) where
       and-both _ _ (le-leb 1 m (s .columns-low)) (le-leb m 30 (s .columns-high)),
     )
 
-    body-read :
-        (head : Head) →
-        whole-file file head lent
-        (records-at kind file n m (record-count kind b) (length ((bytes-of n ++ bytes-of m) ++ tally)) 0 (blank kind n m))
-        ≡ (read.File head, b)
-    unfolding record-count
-    body-read head =
-        let l : length b ≡ 1024 = p .is-long in
-        walk (p .sizes .rows-high, p .sizes .columns-high) file b head lent b ((bytes-of n ++ bytes-of m) ++ tally) [] 0 _ 0 (blank kind n m)
-        after-tally refl (blank-is kind n m ∙ ap (λ (k : ℕ). blanks 0 k) (sym l)) refl refl (blank-length kind n m) (omega arith) (omega arith)
-        (p .scanned)
+    small : (n ≤ 30) × (m ≤ 30)
+    small = (p .sizes .rows-high, p .sizes .columns-high)
 
-    file-read : read-file kind file lent ≡ (read.File (record { rows = n; columns = m; count = record-count kind b }), b)
-    file-read =
-        head-read kind file lent w n _ (size-good file 0 n _ rows-read (sizes .0)) m _ (size-good file _ m _ columns-read (sizes .1)) _ _ tally-read
-        ∙ body-read _
+    passes : (q : ℕ) → q < 1024 → element-test kind n m q (getD b q 0) ≡ Accepted
+    passes q l = scan-each (buffer-scan (element-test kind n m) b) (p .scanned) q (omega (arith, p .is-long))
 
+    -- the file, from its lists: after the first the buffer is c
+    lists-taken :
+        (c : List ℕ) (more : ℕ) →
+        List-taken first file n m (record-count first b) (length front) (length listed) (blank kind n m) c →
+        Rest-taken kind file n m (length listed) c b more →
+        File-taken kind file b (record { rows = n; columns = m; count = record-count first b + more })
+    lists-taken c more f t =
+        record {
+          second = length (bytes-of n);
+          third = length (bytes-of n ++ bytes-of m);
+          start = length front;
+          end = length listed;
+          count = record-count first b;
+          more = more;
+          first = c;
+          rows-read = size-good file 0 n _ rows-read (sizes .0);
+          columns-read = size-good file _ m _ columns-read (sizes .1);
+          count-read = tally-read;
+          first-read = f;
+          rest-read = t;
+          both = refl;
+        }
+
+-- The first list of a map leaves its dead processors healthy, and the second marks them.
+module _ (n m : ℕ) (b : List ℕ) (p : Passed Map n m b) where
+  abbrev faults : List ℕ
+  faults = buffer (λ q. alive (getD b q 0))
+
+  faults-at : (q : ℕ) → q < 1024 → getD faults q 0 ≡ alive (getD b q 0)
+  faults-at q l = tabulate-at (λ q. alive (getD b q 0)) 1024 q 0 l
+
+  faults-long : length faults ≡ 1024
+  faults-long = tabulate-length (λ q. alive (getD b q 0)) 1024
+
+  marks : (q : ℕ) → q < 1024 → allowed n m q (getD b q 0) ≡ true
+  marks q l = accepted-not _ 3 q 0 (passes Map n m b p q l)
+
+  same-faults : (record-count Fault faults ≡ record-count Fault b) × (records-of Fault faults ≡ records-of Fault b)
+  same-faults =
+      same-records Fault faults b faults-long (p .is-long)
+      (λ q l. rw (faults-at q l)
+      (by-bool (dead-mark (getD b q 0))
+      (λ d. inr (rw d refl, rw (eqb-true (getD b q 0) 3 d) refl))
+      (λ d. inl (rw d refl))))
+
+  abbrev ahead : List ℕ
+  ahead = listed Map n m b
+
+  abbrev whole : List ℕ
+  whole = file-bytes Map n m b
+
+  faults-read : List-taken Fault whole n m (record-count Fault b) (length (front Map n m b)) (length ahead) (blank Map n m) faults
+  faults-read =
+      rw (same-faults .0, same-faults .1) at
+      (list-read Fault n m (small Map n m b p) whole (front Map n m b) (second-list Map b) (blank Map n m) faults
+      (rw (same-faults .1) (after-tally Map n m b)) (blank-length Map n m) faults-long
+      (λ q l. rw (blank-at Map n m q l, faults-at q l) (fault-turned n m q (getD b q 0) (marks q l))))
+
+  -- the second list, in any file where it stands last
+  dead-read :
+      (s before : List ℕ) →
+      s ≡ before ++ (records-of Dead b ++ []) →
+      List-taken Dead s n m (record-count Dead b) (length before) (length (before ++ records-of Dead b)) faults b
+  dead-read s before e =
+      list-read Dead n m (small Map n m b p) s before [] faults b e faults-long (p .is-long)
+      (λ q l. rw (faults-at q l) (dead-turned n m q (getD b q 0) (marks q l)))
+
+  no-dead : record-count Dead b ≡ 0 → Ended whole (length ahead) faults b (record-count Dead b)
+  no-dead z =
+      let t = dead-read (records-of Dead b ++ []) [] refl in
+      let e = sym (none-left Dead _ n m 0 0 faults) ∙ (rw z at (t .records-read)) in
+      record { ends = ends-listed Map n m b (rw z refl); same = ap (λ (x : Step × List ℕ). x .1) e; none = z }
+
+  some-dead : (record-count Dead b ≡ 0 → ⊥) → Second-taken whole n m (length ahead) faults b (record-count Dead b)
+  some-dead z =
+      let tally : List ℕ = bytes-of (record-count Dead b) in
+      let e : whole ≡ ahead ++ (tally ++ records-of Dead b) =
+      after-list Map n m b ∙ ap (λ (l : List ℕ). ahead ++ l) (dead-some (record-count Dead b) b z) in
+      let f = e ∙ sym (append-assoc ahead tally (records-of Dead b)) in
+      record {
+        start = length (ahead ++ tally);
+        end = length ((ahead ++ tally) ++ records-of Dead b);
+        count-read =
+            read-at whole ahead (records-of Dead b) (record-count Dead b) _ _ e refl (length-append ahead tally) (few Map n m b p Dead);
+        some = z;
+        list-read = dead-read whole (ahead ++ tally) (f ∙ ap (λ (l : List ℕ). (ahead ++ tally) ++ l) (sym (append-nil (records-of Dead b))));
+        ends = omega (arith, ap length f);
+      }
+
+file-is-taken :
+    (kind : Kind) (n m : ℕ) (b : List ℕ) (p : Passed kind n m b) →
+    File-taken kind (file-bytes kind n m b) b (record { rows = n; columns = m; count = file-count kind b })
+file-is-taken Map n m b p =
+    lists-taken Map n m b p (faults n m b p) (record-count Dead b) (faults-read n m b p)
+    (by-eq (record-count Dead b) 0 (λ z. inl (no-dead n m b p z)) (λ z. inr (some-dead n m b p z)))
+file-is-taken Plan n m b p =
+    rw (add-zero (record-count Path b)) at
+    (lists-taken Plan n m b p b 0
+    (list-read Path n m (small Plan n m b p) (file Plan n m b) (front Plan n m b) [] (blank Plan n m) b (after-tally Plan n m b)
+    (blank-length Plan n m) (p .is-long)
+    (λ q l. rw (blank-at Plan n m q l) (path-turned n m q (getD b q 0) (passes Plan n m b p q l))))
+    (record { ends = ends-listed Plan n m b refl; same = refl; none = refl }))
+
+module _ (kind : Kind) (n m : ℕ) where
   -- What the writer accepts is the file, and the file buffer begins with it.
   accepted :
       (k : ℕ) (b out lent : List ℕ) →
@@ -224,7 +366,7 @@ module _ (kind : Kind) (n m : ℕ) where
       buffer-test kind n m b ≡ Accepted →
       write-file kind n m b out .0 ≡ written.Length k →
       read-file kind (take k (write-file kind n m b out .1)) lent
-      ≡ (read.File (record { rows = n; columns = m; count = record-count kind b }), b)
+      ≡ (read.File (record { rows = n; columns = m; count = file-count kind b }), b)
   accepted k b out lent w a h =
       let f : List ℕ = file-bytes kind n m b in
       by-lt (length out) (length f)
@@ -236,21 +378,21 @@ module _ (kind : Kind) (n m : ℕ) where
       let e = file-accepted kind n m b out a ∙ put-whole f out l in
       let j : k ≡ length f = cc (sym h ∙ ap (λ (x : FileWritten × List ℕ). x .0) e) in
       ap (λ (s : List ℕ). read-file kind s lent) (rw (e, j) (take-append-seam f (drop (length f) out)))
-      ∙ file-read b lent w (passed kind n m b a))
+      ∙ taken-file kind f b _ (file-is-taken kind n m b (passed kind n m b a)) lent w)
 
   file-unchanged :
       (k : ℕ) (b out lent : List ℕ) →
       length lent ≡ 1024 →
       write-file kind n m b out .0 ≡ written.Length k →
       read-file kind (take k (write-file kind n m b out .1)) lent
-      ≡ (read.File (record { rows = n; columns = m; count = record-count kind b }), b)
+      ≡ (read.File (record { rows = n; columns = m; count = file-count kind b }), b)
   file-unchanged k b out lent w h = by-test (buffer-test kind n m b) refl
     where
       by-test :
           (v : Verdict) →
           buffer-test kind n m b ≡ v →
           read-file kind (take k (write-file kind n m b out .1)) lent
-          ≡ (read.File (record { rows = n; columns = m; count = record-count kind b }), b)
+          ≡ (read.File (record { rows = n; columns = m; count = file-count kind b }), b)
       by-test Accepted a = accepted k b out lent w a h
       by-test (Refused r) a =
           let z : _≡_ {A = ℕ} 0 1 = cc (sym h ∙ ap (λ (x : FileWritten × List ℕ). x .0) (file-refused kind n m b out r a)) in

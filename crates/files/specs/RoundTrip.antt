@@ -6,7 +6,7 @@ use mathlib.Core.List.{List, _++_}
 use lib.ListN.{length, take}
 use Rattle.array.specs.declared.Verdict.the-variants.{Accepted}
 use Rattle.formats.specs.Number.{number-at, bytes-of}
-use Rattle.formats.specs.Records.{record-count, file-bytes}
+use Rattle.formats.specs.Records.{file-bytes, file-count}
 use Rattle.formats.specs.declared.Number.the-variants.{Read}
 use Rattle.formats.specs.declared.Kind.{Kind}
 use Rattle.readers.specs.Reading.{read-file}
@@ -25,4 +25,4 @@ pub record Round-trip : Type 0 where
   -- same N and M, the count of what was written, and the same grid or directions.
   pub file-unchanged : (kind : Kind) (n m k : ℕ) (b out lent : List ℕ) → length lent ≡ 1024 → write-file kind n m b out .0 ≡ Length k
       → read-file kind (take k (write-file kind n m b out .1)) lent
-      ≡ (File (record { rows = n; columns = m; count = record-count kind b }), b)
+      ≡ (File (record { rows = n; columns = m; count = file-count kind b }), b)

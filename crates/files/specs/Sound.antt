@@ -4,7 +4,7 @@ use Prim.Native.Nat.{ℕ}
 use mathlib.Core.Path.{_≡_}
 use mathlib.Core.List.{List}
 use Rattle.array.specs.declared.Verdict.the-variants.{Accepted}
-use Rattle.formats.specs.Records.{record-count}
+use Rattle.formats.specs.Records.{file-count}
 use Rattle.formats.specs.declared.Kind.{Kind}
 use Rattle.readers.specs.Reading.{read-file}
 use Rattle.readers.specs.declared.Head.{Head}
@@ -14,8 +14,8 @@ use Rattle.writers.specs.Writing.{buffer-test}
 pub record Reads-sound (kind : Kind) (b : List ℕ) (head : Head) : Type 0 where
   -- the buffer passes the tests of its writer with the N and M that were read; for a map these are the tests of a well-formed map
   pub fit : buffer-test kind (head .rows) (head .columns) b ≡ Accepted
-  -- the count that was read is that of the buffer's faults or paths
-  pub counted : record-count kind b ≡ head .count
+  -- the count that was read is that of the buffer's faults, dead or not, or paths
+  pub counted : file-count kind b ≡ head .count
 
 abbrev pub Sound-reading : Type 0
 Sound-reading =

@@ -13,7 +13,7 @@ use Rattle.array.specs.Place.{position, processor-at}
 use Rattle.array.specs.Map.{inner-fault}
 use Rattle.array.proofs.Bools.{and-true, cond-taken, cond-left}
 use Rattle.array.proofs.Places.{processor-within}
-use Rattle.track.specs.Ports.{Wafer, Compass, W, E, N, S, Node, Processor, Across, Down, _at_, neighbour, stands, if-stands, joins-nothing, joined, fault-joins, across-joins, down-joins, W–S·E–N, W–N·E–S}
+use Rattle.track.specs.Ports.{Wafer, Compass, W, E, N, S, Node, Processor, Across, Down, _at_, neighbour, stands, if-stands, ends-link, set-to, joined, fault-joins, across-joins, down-joins, W–S·E–N, W–N·E–S}
 use Rattle.track.specs.Link.{ends, inside, joined-to}
 use Rattle.follower.specs.declared.Port.{Port}
 use Rattle.follower.specs.declared.Stretch.the-variants.{To, Nothing}
@@ -193,14 +193,17 @@ sound-joining (some E) = omega arith
 sound-joining (some N) = omega arith
 sound-joining (some S) = omega arith
 
-seen-processor : (v : Node) (b : Bool) (d : ℕ) (q : Compass)
-    → seen v (processor-joins b d q) ≡ elim (not b) [ true ↦ ends | false ↦ joined-to v (cond b (fault-joins d q) none) ]
-seen-processor v true d q = seen-joining v (fault-joins d q)
-seen-processor v false d q = refl
+seen-processor : (v : Node) (b c : Bool) (d : ℕ) (q : Compass)
+    → seen v (processor-joins b c d q)
+    ≡ elim (not b) [ true ↦ ends | false ↦ joined-to v (cond c none (cond b (fault-joins d q) none)) ]
+seen-processor v true true d q = refl
+seen-processor v true false d q = seen-joining v (fault-joins d q)
+seen-processor v false c d q = refl
 
-sound-processor : (b : Bool) (d : ℕ) (q : Compass) → Sound-inside (processor-joins b d q)
-sound-processor true d q = sound-joining (fault-joins d q)
-sound-processor false d q = tt
+sound-processor : (b c : Bool) (d : ℕ) (q : Compass) → Sound-inside (processor-joins b c d q)
+sound-processor true true d q = tt
+sound-processor true false d q = sound-joining (fault-joins d q)
+sound-processor false c d q = tt
 
 -- what is inside at a port, from what the parts of the code answer
 module _ (w : Wafer) (p : Port) (r : Inside) where
@@ -212,22 +215,26 @@ module _ (w : Wafer) (p : Port) (r : Inside) where
 
   pub finds-processor :
       p .kind ≡ 0
-      → r ≡ processor-joins (inner-fault (w .rows) (w .columns) (w .grid) here) (getD (w .directions) here 0) by
+      → r ≡ processor-joins (inner-fault (w .rows) (w .columns) (w .grid) here) (w .broken (Processor (p .row) (p .column)))
+      (getD (w .directions) here 0) by
       → Finds w p r
-  unfolding inside joins-nothing joined
+  unfolding inside ends-link joined set-to
   finds-processor k e =
+      let v = Processor (p .row) (p .column) in
       let b = inner-fault (w .rows) (w .columns) (w .grid) here in
       let d = getD (w .directions) here 0 in
-      record { is = rw (e, k) (seen-processor (Processor (p .row) (p .column)) b d by); sound = rw e (sound-processor b d by) }
+      record { is = rw (e, k) (seen-processor v b (w .broken v) d by); sound = rw e (sound-processor b (w .broken v) d by) }
 
-  pub finds-across : p .kind ≡ 1 → r ≡ joining (across-joins (getD (w .across) here 0) by) → Finds w p r
-  unfolding inside joins-nothing joined
-  finds-across k e =
+  pub finds-across : p .kind ≡ 1 → w .broken (Across (p .row) (p .column)) ≡ false
+      → r ≡ joining (across-joins (getD (w .across) here 0) by) → Finds w p r
+  unfolding inside ends-link joined set-to
+  finds-across k n e =
       let o = across-joins (getD (w .across) here 0) by in
-      record { is = rw (e, k) (seen-joining (Across (p .row) (p .column)) o); sound = rw e (sound-joining o) }
+      record { is = rw (e, k, n) (seen-joining (Across (p .row) (p .column)) o); sound = rw e (sound-joining o) }
 
-  pub finds-down : p .kind ≡ 2 → r ≡ joining (down-joins (getD (w .down) here 0) by) → Finds w p r
-  unfolding inside joins-nothing joined
-  finds-down k e =
+  pub finds-down : p .kind ≡ 2 → w .broken (Down (p .row) (p .column)) ≡ false
+      → r ≡ joining (down-joins (getD (w .down) here 0) by) → Finds w p r
+  unfolding inside ends-link joined set-to
+  finds-down k n e =
       let o = down-joins (getD (w .down) here 0) by in
-      record { is = rw (e, k) (seen-joining (Down (p .row) (p .column)) o); sound = rw e (sound-joining o) }
+      record { is = rw (e, k, n) (seen-joining (Down (p .row) (p .column)) o); sound = rw e (sound-joining o) }

@@ -111,8 +111,9 @@ straight-joins axis = cond (eqb axis 0) W–E N–S
 abbrev pub switch-joins : ℕ → ℕ → Compass → Option Compass
 switch-joins kind letter = cond (eqb kind 1) (across-joins letter) (down-joins letter)
 
-abbrev pub processor-joins : Bool → ℕ → Compass → Inside
-processor-joins fault direction q = cond fault (joining (fault-joins direction q)) Ends
+-- of an inner fault, dead or not, and of any other processor
+abbrev pub processor-joins : Bool → Bool → ℕ → Compass → Inside
+processor-joins fault dead direction q = cond fault (cond dead Stops (joining (fault-joins direction q))) Ends
 
 abbrev pub seen : Node → Inside → link.Inside
 seen v Ends = ends

@@ -8,7 +8,7 @@ ghost use mathlib.Core.Bool.{false};
 ghost use mathlib.Core.List.{List};
 ghost use Prim.Native.Nat.{ℕ, _≤_, _<_};
 ghost use lib.ListN.{length};
-ghost use Rattle.array.specs.Map.{inner-faulty};
+ghost use Rattle.array.specs.Map.{dead-mark, inner-faulty};
 ghost use Rattle.track.specs.Letters.{switch-byte};
 ghost use Rattle.track.specs.Ports.{Wafer, stands, fault-joins, _at_, wafer};
 ghost use Rattle.track.specs.Link.{run, enters, unjoined-at};
@@ -206,9 +206,12 @@ fn fault_join(direction: u8, side: u8) -> Inside
 // Inner part: what is inside a processor, by its mark and direction.
 fn processor_join(n: usize, m: usize, p: usize, mark: u8, direction: u8, side: u8) -> Inside
     requires { ⌜ side ≤ 3 ⌝ }
-    ensures { λ r. ⌜ r ≡ processor-joins (inner-faulty n m p mark) direction (compass side) ⌝ }
+    ensures { λ r. ⌜ r ≡ processor-joins (inner-faulty n m p mark) (dead-mark mark) direction (compass side) ⌝ }
 {
     if array::is_inner_fault(n, m, p, mark) {
+        if array::is_dead(mark) {
+            return Inside::Stops;
+        }
         return fault_join(direction, side);
     }
     Inside::Ends

@@ -1,16 +1,18 @@
--- The records along a list, where no element has one and where one is added above all others. The positions along a list are the case in
--- which a record is its position.
+-- The records along a list, where no element has one, where one is added above all others, and where only elements without
+-- one differ. The positions along a list are the case in which a record is its position.
 -- Assumes nothing.
 use Prim.Native.Nat.{ℕ, zero, suc, _+_, _<_, _≤_}
 use mathlib.Core.Path.{_≡_, refl, sym, ap, _∙_}
-use mathlib.Core.Bool.{Bool, true, false}
+use mathlib.Core.Bool.{Bool, true, false, cond}
+use mathlib.Core.Logic.{_⊎_, ⊎-elim}
 use mathlib.Core.List.{List, [], _∷_, _++_, append-assoc, append-nil}
 use native.Mathlib.Nat.{le-of-suc-le-suc, not-suc-le-zero, add-zero}
 use native.Mathlib.Omega.{arith}
 use lib.ListN.{length, getD, set}
 use Rattle.array.specs.Buffer.{positions-along}
 use Rattle.array.proofs.Bools.{by-bool}
-use Rattle.formats.specs.Records.{records-along}
+use Rattle.formats.specs.Records.{recorded, records-along, record-count}
+use Rattle.formats.specs.declared.Record.{Record}
 
 abbrev pub position-only : ℕ → ℕ → List ℕ
 position-only i x = i ∷ []
@@ -61,3 +63,30 @@ module _ (has : ℕ → ℕ → Bool) (bytes : ℕ → ℕ → List ℕ) where
       by-bool (has i x)
       (λ c. rw c (ap (λ (z : List ℕ). bytes i x ++ z) h ∙ sym (append-assoc (bytes i x) _ _)))
       (λ c. rw c h)
+
+-- elements that are equal, or of which neither has a record; lists of such elements have the same records
+abbrev pub Alike : (ℕ → ℕ → Bool) → ℕ → ℕ → ℕ → Type 0
+Alike has i x y = (x ≡ y) ⊎ ((has i x ≡ false) × (has i y ≡ false))
+
+pub records-alike :
+    (has : ℕ → ℕ → Bool) (bytes : ℕ → ℕ → List ℕ) (xs ys : List ℕ) (i : ℕ) →
+    length xs ≡ length ys →
+    ((j : ℕ) → j < length xs → Alike has (i + j) (getD xs j 0) (getD ys j 0)) →
+    records-along has bytes i xs ≡ records-along has bytes i ys
+unfolding records-along
+records-alike has bytes [] [] i w h = refl
+records-alike has bytes [] (y ∷ ys) i w h = absurd (omega arith)
+records-alike has bytes (x ∷ xs) [] i w h = absurd (omega arith)
+records-alike has bytes (x ∷ xs) (y ∷ ys) i w h =
+    let r =
+    records-alike has bytes xs ys (suc i) (omega arith)
+    (λ j l. let e : i + suc j ≡ suc i + j = omega arith in rw e at (h (suc j) (omega arith))) in
+    ⊎-elim
+    (λ e. ap (λ (z : ℕ). records-along has bytes i (z ∷ xs)) e ∙ ap (λ (l : List ℕ). cond (has i y) (bytes i y ++ l) l) r)
+    (λ n. rw (n .0, n .1) r)
+    (rw (add-zero i) at (h 0 (omega arith)))
+
+-- the count of a buffer's records is the length of their positions
+pub count-is : (kind : Record) (b : List ℕ) → record-count kind b ≡ length (records-along (recorded kind) position-only 0 b)
+unfolding record-count
+count-is kind b = ap length (positions-are (recorded kind) 0 b)

@@ -1,16 +1,19 @@
--- Document 01, "Files": what the two kinds of file hold. A map has the row and the column of each fault, a plan those of each path's start
--- and its direction; both begin with N, M and a count. Assumes nothing.
-use Prim.Native.Nat.{ℕ, suc}
+-- Document 01, "Files", and document 02, T-04: what the two kinds of file hold. Both begin with N and M. A map has a list of
+-- its faults, by row and column, and a second one of its dead processors; a plan has a list of its paths, by row, column and
+-- direction. Each list begins with its count. Assumes nothing.
+use Prim.Native.Nat.{ℕ, suc, _+_}
 use mathlib.Core.Bool.{Bool, cond, not}
 use mathlib.Core.List.{List, [], _∷_, _++_}
 use lib.Dec.{eqb}
 use lib.ListN.{length}
 use Rattle.array.specs.Place.{row, column, processor}
 use Rattle.array.specs.Buffer.{buffer, zeros, positions-in}
-use Rattle.array.specs.Map.{faulty-mark}
+use Rattle.array.specs.Map.{dead-mark}
 use Rattle.formats.specs.Number.{bytes-of}
 use Rattle.formats.specs.declared.Kind.{Kind}
 use Rattle.formats.specs.declared.Kind.the-variants.{Map, Plan}
+use Rattle.formats.specs.declared.Record.{Record}
+use Rattle.formats.specs.declared.Record.the-variants.{Fault, Dead, Path}
 
 -- the buffer that a file with no record stands for: the grid of an array whose processors are all healthy, or no direction
 abbrev pub healthy-mark : ℕ → ℕ → ℕ → ℕ
@@ -23,15 +26,17 @@ abbrev pub blank : Kind → ℕ → ℕ → List ℕ
 blank Map n m = healthy-grid n m
 blank Plan n m = zeros
 
--- an element that has a record: a fault, spare or inner, or a direction
-abbrev pub recorded : Kind → ℕ → ℕ → Bool
-recorded Map p mark = faulty-mark mark
-recorded Plan p d = not (eqb d 0)
+-- an element that has a record: a fault that is not dead, spare or inner; a dead processor; a direction
+abbrev pub recorded : Record → ℕ → ℕ → Bool
+recorded Fault p mark = eqb mark 1
+recorded Dead p mark = dead-mark mark
+recorded Path p d = not (eqb d 0)
 
 -- the bytes of a record
-abbrev pub record-bytes : Kind → ℕ → ℕ → List ℕ
-record-bytes Map p mark = bytes-of (row p) ++ bytes-of (column p)
-record-bytes Plan p d = bytes-of (row p) ++ (bytes-of (column p) ++ bytes-of d)
+abbrev pub record-bytes : Record → ℕ → ℕ → List ℕ
+record-bytes Fault p mark = bytes-of (row p) ++ bytes-of (column p)
+record-bytes Dead p mark = bytes-of (row p) ++ bytes-of (column p)
+record-bytes Path p d = bytes-of (row p) ++ (bytes-of (column p) ++ bytes-of d)
 
 -- the records of a buffer's elements at the positions from i on, in row order
 unfoldable pub records-along : (ℕ → ℕ → Bool) → (ℕ → ℕ → List ℕ) → ℕ → List ℕ → List ℕ
@@ -39,14 +44,29 @@ records-along has bytes i [] = []
 records-along has bytes i (x ∷ xs) =
     cond (has i x) (bytes i x ++ records-along has bytes (suc i) xs) (records-along has bytes (suc i) xs)
 
--- how many records a buffer has
-unfoldable pub record-count : Kind → List ℕ → ℕ
+-- how many records of a kind a buffer has
+unfoldable pub record-count : Record → List ℕ → ℕ
 record-count kind b = length (positions-in (recorded kind) b)
 
--- the bytes of a whole file: N, M, the count and the records
+-- the bytes of a list: the count and the records
+abbrev pub list-bytes : Record → List ℕ → List ℕ
+list-bytes kind b = bytes-of (record-count kind b) ++ records-along (recorded kind) (record-bytes kind) 0 b
+
+-- the records of a file's first list
+abbrev pub first-list : Kind → Record
+first-list Map = Fault
+first-list Plan = Path
+
+-- T-04: the second list of a map, which is there only if there is a dead processor
+abbrev pub second-list : Kind → List ℕ → List ℕ
+second-list Map grid = cond (eqb (record-count Dead grid) 0) [] (list-bytes Dead grid)
+second-list Plan directions = []
+
+-- the bytes of a whole file: N, M and the lists
 unfoldable pub file-bytes : Kind → ℕ → ℕ → List ℕ → List ℕ
-file-bytes kind n m b =
-    bytes-of n
-    ++ (bytes-of m
-    ++ (bytes-of (record-count kind b)
-    ++ records-along (recorded kind) (record-bytes kind) 0 b))
+file-bytes kind n m b = bytes-of n ++ (bytes-of m ++ (list-bytes (first-list kind) b ++ second-list kind b))
+
+-- the count that its reader returns; T-04: that of a map covers both lists
+abbrev pub file-count : Kind → List ℕ → ℕ
+file-count Map grid = record-count Fault grid + record-count Dead grid
+file-count Plan directions = record-count Path directions

@@ -1,11 +1,11 @@
-// Numbers of a file, and the two kinds of file.
+// Numbers of a file, the two kinds of file and the kinds of record.
 use array::Refusal;
 ghost use mathlib.Core.Path.{_≡_};
 ghost use Prim.Native.Nat.{ℕ, _+_, _<_, _≤_};
 ghost use lib.ListN.{length};
 ghost use lib.Seq.{sets};
 ghost use Rattle.formats.specs.Number.{told, number-at, bytes-of, refusal-of};
-ghost use Rattle.formats.specs.Records.{recorded};
+ghost use Rattle.formats.specs.Records.{recorded, first-list};
 
 // What reading a number answers: its value with the offset behind it, or the refusal.
 pub enum Number {
@@ -17,6 +17,13 @@ pub enum Number {
 pub enum Kind {
     Map,
     Plan,
+}
+
+// The kinds of record: a fault that is not dead, a dead processor (T-04), or a path.
+pub enum Record {
+    Fault,
+    Dead,
+    Path,
 }
 
 // The byte as a number of 32 bits.
@@ -98,12 +105,23 @@ pub fn number_length(v: usize) -> usize
     2
 }
 
-// Inner part: whether an element of a buffer has a record in the file.
-pub fn is_recorded(kind: Kind, v: u8) -> bool
+// Inner part: whether an element of a buffer has a record of a kind.
+pub fn is_recorded(kind: Record, v: u8) -> bool
     ensures { λ r. ⌜ ((p : ℕ) → r ≡ recorded kind p v) ⌝ }
 {
     match kind {
-        Kind::Map => array::is_faulty(v),
-        Kind::Plan => !(v == 0),
+        Record::Fault => v == 1,
+        Record::Dead => array::is_dead(v),
+        Record::Path => !(v == 0),
+    }
+}
+
+// Inner part: the records of a file's first list.
+pub fn first_list(kind: Kind) -> Record
+    ensures { λ r. ⌜ r ≡ first-list kind ⌝ }
+{
+    match kind {
+        Kind::Map => Record::Fault,
+        Kind::Plan => Record::Path,
     }
 }

@@ -3,6 +3,7 @@
 use Prim.Native.Nat.{ℕ, zero, suc, _+_, _-_, _<_, _≤_}
 use mathlib.Core.Path.{_≡_, refl, sym, ap, subst, _∙_}
 use mathlib.Core.Bool.{Bool, true, false, cond, _||_}
+use mathlib.Core.Logic.{⊎-elim}
 use mathlib.Core.List.{List}
 use native.Mathlib.Numerals.{add-one}
 use native.Mathlib.Omega.{arith}
@@ -11,28 +12,42 @@ use lib.Dec.{ltb, leb, eqb}
 use lib.ListN.{length, getD, set, length-set, length-replicate, getD-replicate}
 use lib.Seq.{sets, length-sets, ext-getD, getD-set-same, getD-set-other}
 use borrow.Author.Count.{below-more}
-use Rattle.array.specs.Place.{position, row, column, processor-at, processor}
+use Rattle.array.specs.Place.{position, row, column, processor-at, inner, processor}
 use Rattle.array.specs.Buffer.{span, tabulate}
-use Rattle.array.specs.Map.{mark-at}
-use Rattle.array.proofs.Bools.{by-bool, by-lt, cond-taken, cond-left}
+use Rattle.array.specs.Map.{dead-mark, mark-at}
+use Rattle.array.proofs.Bools.{or-true, by-bool, by-lt, cond-taken, cond-left}
 use Rattle.array.proofs.Fills.{tabulate-length, tabulate-at}
 use Rattle.array.proofs.Formed.{Formed, formed}
 use Rattle.array.proofs.Marks.{mark-read}
 use Rattle.array.proofs.Scans.{scan-all}
 use Rattle.grids.specs.Text.{character, text}
-use Rattle.grids.specs.Reading.{Rows, rows-of, no-rows, Taken, taken, take-line, take-lines, trim, blank-letter, fault-letter, mark-of, grid-of, good-if, length-test, letter-test, position-test, rows-test, read-rows}
+use Rattle.grids.specs.Reading.{Rows, rows-of, no-rows, Taken, taken, take-line, take-lines, trim, blank-letter, processor-mark, mark-of, grid-of, length-test, processor-test, letter-test, position-test, rows-test, read-rows}
 use Rattle.grids.specs.Theorems.{Text-round-trip}
-use Rattle.grids.specs.declared.Wrong.the-variants.{Mark}
 use Rattle.grids.specs.declared.Judged.the-variants as judged
 use Rattle.grids.specs.declared.TextRead.the-variants as reading
-use Rattle.grids.proofs.Marks.{grid-long, grid-at}
+use Rattle.grids.proofs.Marks.{processor-allows, allowed-there, allowed-none, grid-long, grid-at}
 use Rattle.grids.proofs.Rows.{row-taken, line-row, lines-none, lines-on, rows-read, text-rows}
 use Rattle.grids.proofs.Judging.{wrong-scan, place-good}
 use Rattle.grids.proofs.Stores.{sets-at, sets-other}
 use Rattle.grids.proofs.TextLines.{by-character, span-cons, trim-span-last, trim-span-kept, letter, row-list, text-lines}
 
-by-mark : (P : ℕ → Type 0) → P 0 → P 1 → (k : ℕ) → k ≤ 1 → P k
-by-mark P a b k h = by-lt k 1 (λ l. let e : k ≡ 0 = omega arith in rw e a) (λ l. let e : k ≡ 1 = omega arith in rw e b)
+-- the marks that a processor may have
+by-low : (P : ℕ → Type 0) → P 0 → P 1 → (k : ℕ) → leb k 1 ≡ true → P k
+by-low P a b k h =
+    let g = leb-true k 1 h in
+    by-lt k 1 (λ l. let e : k ≡ 0 = omega arith in rw e a) (λ l. let e : k ≡ 1 = omega arith in rw e b)
+
+by-mark :
+    (P : Bool → ℕ → Type 0) →
+    ((i : Bool) → P i 0) →
+    ((i : Bool) → P i 1) →
+    P true 3 →
+    (i : Bool) (k : ℕ) →
+    processor-allows i k ≡ true →
+    P i k
+by-mark P a b d true k h =
+    ⊎-elim (by-low (P true) (a true) (b true) k) (λ e. rw (eqb-true k 3 e) d) (or-true (leb k 1) (dead-mark k) h)
+by-mark P a b d false k h = by-low (P false) (a false) (b false) k h
 
 -- the first and the last row, which have corners
 abbrev outer : ℕ → ℕ → Bool
@@ -47,16 +62,18 @@ width-is n m x = by-bool (outer n x) (λ t. rw t (omega arith, omega arith)) (λ
 
 module _ (n m : ℕ) (grid : List ℕ) (F : Formed n m grid) where
   -- what stands at a position
-  mark-low : (p : ℕ) → p < 1024 → processor n m p ≡ true → mark-at grid p ≤ 1
-  mark-low p h t = leb-true (mark-at grid p) 1 (sym (cond-taken _ _ refl t) ∙ F .marks p h)
+  mark-there : (p : ℕ) → p < 1024 → processor n m p ≡ true → processor-allows (inner n m p) (mark-at grid p) ≡ true
+  mark-there p h t = sym (allowed-there n m p (mark-at grid p) t) ∙ F .marks p h
 
   mark-none : (p : ℕ) → p < 1024 → processor n m p ≡ false → mark-at grid p ≡ 2
-  mark-none p h t = eqb-true (mark-at grid p) 2 (sym (cond-left _ _ refl t) ∙ F .marks p h)
+  mark-none p h t = eqb-true (mark-at grid p) 2 (sym (allowed-none n m p (mark-at grid p) t) ∙ F .marks p h)
 
   mark-again : (p : ℕ) → p < 1024 → mark-of n m p (character (mark-at grid p)) ≡ mark-at grid p
   mark-again p h =
       by-bool (processor n m p)
-      (λ t. cond-taken _ _ refl t ∙ by-mark (λ k. cond (fault-letter (character k)) 1 0 ≡ k) refl refl (mark-at grid p) (mark-low p h t))
+      (λ t.
+      cond-taken _ _ refl t
+      ∙ by-mark (λ i k. processor-mark i (character k) ≡ k) (λ i. refl) (λ i. refl) refl (inner n m p) (mark-at grid p) (mark-there p h t))
       (λ t. cond-left _ _ refl t ∙ sym (mark-none p h t))
 
   -- the same by row and column
@@ -71,7 +88,9 @@ module _ (n m : ℕ) (grid : List ℕ) (F : Formed n m grid) where
         rw (a, b) t
 
     letter-shown : processor-at n m x y ≡ true → blank-letter (letter grid x y) ≡ false
-    letter-shown t = by-mark (λ k. blank-letter (character k) ≡ false) refl refl (mark-at grid (position x y)) (mark-low (position x y) low (there t))
+    letter-shown t =
+        let p = position x y in
+        by-mark (λ i k. blank-letter (character k) ≡ false) (λ i. refl) (λ i. refl) refl (inner n m p) (mark-at grid p) (mark-there p low (there t))
 
     letter-none : processor-at n m x y ≡ false → letter grid x y ≡ 32
     letter-none t = ap character (mark-none (position x y) low (there t))
@@ -199,7 +218,7 @@ module _ (n m : ℕ) (grid : List ℕ) (F : Formed n m grid) where
               (set (r .lengths) (r .seen .rows) (width n m x)) (set (r .lines) (r .seen .rows) k);
           is =
               line-row k r (ap (λ (j : ℕ). span f 0 j) v ∙ span-cons f 0 (width n m x - 1))
-              (eqb-false (f 0) 35 (by-character (λ z. eqb z 35 ≡ false) refl refl refl (mark-at grid (position x 0))))
+              (eqb-false (f 0) 35 (by-character (λ z. eqb z 35 ≡ false) refl refl refl refl (mark-at grid (position x 0))))
               (row-taken k line r (H .no-blank) (omega arith) (tabulate-length f (width n m x)) (omega arith)
               (ap (λ (z : ℕ). sets (r .cells) (position z 0) line) (sym c)));
           held =
@@ -239,8 +258,8 @@ module _ (n m : ℕ) (grid : List ℕ) (F : Formed n m grid) where
         (λ t.
         ap (λ (b : ℕ). letter-test n m (row p) (column p) b line) (cell p h)
         ∙ cond-taken _ _ refl t
-        ∙ by-mark (λ k. good-if (eqb (character k) 46 || fault-letter (character k)) (Mark line (column p + 1) (character k)) ≡ judged.Good) refl refl
-        (mark-at grid p) (mark-low p h t))
+        ∙ by-mark (λ i k. processor-test i (character k) line (column p + 1) ≡ judged.Good) (λ i. refl) (λ i. refl) refl (inner n m p)
+        (mark-at grid p) (mark-there p h t))
         (λ t.
         ap (λ (b : ℕ). letter-test n m (row p) (column p) b line) (cell p h ∙ ap character (mark-none p h t)) ∙ cond-left _ _ refl t)
 

@@ -10,16 +10,19 @@ use borrow.Author.Tests.{eq-eqb, ne-eqb}
 use lib.Dec.{eqb}
 use Rattle.array.specs.Place.{position}
 use Rattle.array.specs.Buffer.{span, tabulate}
-use Rattle.array.specs.Map.{mark-at}
+use Rattle.array.specs.Map.{dead-mark, mark-at}
 use Rattle.array.proofs.Bools.{by-bool}
 use Rattle.grids.specs.Text.{character, text-length, text-byte, text}
 use Rattle.grids.specs.Reading.{lines-of, trim, blank-letter}
 use Rattle.grids.proofs.Lines.{trim-last, trim-kept}
 
--- a character of a text is '.', 'X' or a space
-pub by-character : (P : ℕ → Type 0) → P 46 → P 88 → P 32 → (mark : ℕ) → P (character mark)
-by-character P a b d mark =
-    by-bool (eqb mark 0) (λ t. rw t a) (λ t. by-bool (eqb mark 1) (λ u. rw (t, u) b) (λ u. rw (t, u) d))
+-- a character of a text is '.', 'X', 'D' or a space
+pub by-character : (P : ℕ → Type 0) → P 46 → P 88 → P 68 → P 32 → (mark : ℕ) → P (character mark)
+by-character P a b d e mark =
+    by-bool (eqb mark 0) (λ t. rw t a)
+    (λ t.
+    by-bool (eqb mark 1) (λ u. rw (t, u) b)
+    (λ u. by-bool (dead-mark mark) (λ v. rw (t, u, v) d) (λ v. rw (t, u, v) e)))
 
 span-append : (f : ℕ → ℕ) (i a b : ℕ) → span f i (a + b) ≡ span f i a ++ span f (i + a) b
 unfolding span
@@ -115,7 +118,7 @@ module _ (n m : ℕ) (grid : List ℕ) where
   lines-from zero x = rw (zero-mul (m + 3))
   lines-from (suc k) x =
       ap lines-of (text-split k x)
-      ∙ lines-span (letter grid x) (λ y. by-character (λ z. eqb z 10 ≡ false) refl refl refl (mark-at grid (position x y))) 0 (m + 2)
+      ∙ lines-span (letter grid x) (λ y. by-character (λ z. eqb z 10 ≡ false) refl refl refl refl (mark-at grid (position x y))) 0 (m + 2)
       (span (text-byte n m grid) (suc x * (m + 3)) (k * (m + 3)))
       ∙ ap (λ (ls : List (List ℕ)). tabulate (letter grid x) (m + 2) ∷ ls) (lines-from k (suc x))
 

@@ -1,17 +1,17 @@
 -- What a text grid stands for, or what is wrong with it. The comments of `Wrong` in the source say what each kind of wrong is.
--- Characters: 10 line feed, 13 carriage return, 32 space, 35 '#', 43 '+', 46 '.', 88 'X', 120 'x'.
+-- Characters: 10 line feed, 13 carriage return, 32 space, 35 '#', 43 '+', 46 '.', 68 'D', 88 'X', 100 'd', 120 'x'.
 -- Assumes nothing.
 use Prim.Native.Nat.{ℕ, zero, suc, _+_, _-_}
-use mathlib.Core.Bool.{Bool, cond, not, _||_}
+use mathlib.Core.Bool.{Bool, cond, not, _&&_, _||_}
 use mathlib.Core.List.{List, [], _∷_}
 use lib.Dec.{leb, ltb, eqb}
 use lib.ListN.{length, getD, set, replicate}
 use lib.Seq.{sets}
-use Rattle.array.specs.Place.{position, row, column, processor-at, processor}
+use Rattle.array.specs.Place.{position, row, column, inner-at, processor-at, inner, processor}
 use Rattle.array.specs.Buffer.{buffer}
 use Rattle.grids.specs.declared.Seen.{Seen}
 use Rattle.grids.specs.declared.Wrong.{Wrong}
-use Rattle.grids.specs.declared.Wrong.the-variants.{Empty, Few, Many, Blank, Wide, Narrow, Length, Spares, Corner, Mark}
+use Rattle.grids.specs.declared.Wrong.the-variants.{Empty, Few, Many, Blank, Wide, Narrow, Length, Spares, Corner, Mark, Dead}
 use Rattle.grids.specs.declared.Judged.{Judged}
 use Rattle.grids.specs.declared.Judged.the-variants as judged
 use Rattle.grids.specs.declared.TextRead.{TextRead}
@@ -90,9 +90,17 @@ take-lines k (l ∷ ls) r = and-then (take-line (k + 1) (trim l) r) (take-lines 
 abbrev pub fault-letter : ℕ → Bool
 fault-letter b = eqb b 88 || eqb b 120
 
+-- 'D' or 'd', of a dead processor
+abbrev pub dead-letter : ℕ → Bool
+dead-letter b = eqb b 68 || eqb b 100
+
+-- the mark of a processor whose character is b; only an inner one can be dead
+abbrev pub processor-mark : Bool → ℕ → ℕ
+processor-mark is-inner b = cond (fault-letter b) 1 (cond (dead-letter b && is-inner) 3 0)
+
 -- the mark of a position whose character is b
 abbrev pub mark-of : ℕ → ℕ → ℕ → ℕ → ℕ
-mark-of n m p b = cond (processor n m p) (cond (fault-letter b) 1 0) 2
+mark-of n m p b = cond (processor n m p) (processor-mark (inner n m p) b) 2
 
 -- the grid of the characters by position
 unfoldable pub grid-of : ℕ → ℕ → List ℕ → List ℕ
@@ -113,11 +121,18 @@ length-test n m x long line second =
     (good-if (eqb long (m + 1) || eqb long (m + 2)) (Spares line (m + 1) second))
     (good-if (eqb long (m + 2)) (Length line long second (m + 2)))
 
--- the character b in row x and column y: '.', 'X' or 'x' where a processor is, a space (as after the row's end) or '+' where none is
+-- the character b of a processor: '.', 'X' or 'x', and of an inner one also 'D' or 'd'
+abbrev pub processor-test : Bool → ℕ → ℕ → ℕ → Judged
+processor-test is-inner b line column =
+    cond (dead-letter b)
+    (good-if is-inner (Dead line column b))
+    (good-if (eqb b 46 || fault-letter b) (Mark line column b))
+
+-- the character b in row x and column y: a processor's where one is, a space (as after the row's end) or '+' where none is
 abbrev pub letter-test : ℕ → ℕ → ℕ → ℕ → ℕ → ℕ → Judged
 letter-test n m x y b line =
     cond (processor-at n m x y)
-    (good-if (eqb b 46 || fault-letter b) (Mark line (y + 1) b))
+    (processor-test (inner-at n m x y) b line (y + 1))
     (good-if (eqb b 32 || eqb b 43) (Corner line (y + 1) b))
 
 -- what stands in row x and column y, at the start of a row first the row's length; after row N + 1 there is nothing to test

@@ -6,14 +6,14 @@ use mathlib.Core.List.{List}
 use lib.Dec.{eqb}
 use Rattle.array.specs.Place.{position}
 use Rattle.array.specs.Buffer.{tabulate}
-use Rattle.array.specs.Map.{mark-at, well-formed}
+use Rattle.array.specs.Map.{dead-mark, mark-at, well-formed}
 use Rattle.array.specs.Tests.{or-else}
 use Rattle.writers.specs.Writing.{room-test, put}
 use Rattle.writers.specs.declared.FileWritten.{FileWritten}
 
--- '.' healthy, 'X' faulty, a space where no processor is
+-- '.' healthy, 'X' faulty, 'D' dead, a space where no processor is
 abbrev pub character : ℕ → ℕ
-character mark = cond (eqb mark 0) 46 (cond (eqb mark 1) 88 32)
+character mark = cond (eqb mark 0) 46 (cond (eqb mark 1) 88 (cond (dead-mark mark) 68 32))
 
 -- N + 2 lines of M + 2 characters, each with a line feed
 abbrev pub text-length : ℕ → ℕ → ℕ

@@ -12,7 +12,7 @@ ghost use Rattle.array.specs.declared.Verdict.the-variants.{Accepted};
 ghost use Rattle.writers.specs.Writing.{told, room-test, put};
 ghost use Rattle.grids.specs.Text.{character, text-length, text-byte, text, write-text};
 ghost use Rattle.grids.specs.Parts.{Within, line-length, taken-as};
-ghost use Rattle.grids.specs.Reading.{fault-letter, mark-of, grid-of, trim, lines-of, rows-of, pass-blank, take-row, take-line, take-lines, length-test, letter-test, place-test, rows-test, read-rows, read-text};
+ghost use Rattle.grids.specs.Reading.{fault-letter, dead-letter, processor-mark, mark-of, grid-of, trim, lines-of, rows-of, pass-blank, take-row, take-line, take-lines, length-test, processor-test, letter-test, place-test, rows-test, read-rows, read-text};
 
 // What is wrong with a text. Lines and columns count from 1.
 pub enum Wrong {
@@ -36,6 +36,8 @@ pub enum Wrong {
     Corner(usize, usize, u8),
     // A processor that is neither healthy nor faulty: line, column, character.
     Mark(usize, usize, u8),
+    // A spare marked as dead: line, column, character.
+    Dead(usize, usize, u8),
 }
 
 // What reading a text answers: N and M, or what is wrong.
@@ -210,6 +212,13 @@ fn is_fault(b: u8) -> bool
     (b == b'X') | (b == b'x')
 }
 
+// Whether a character stands for a dead processor.
+fn is_dead_letter(b: u8) -> bool
+    ensures { λ r. ⌜ r ≡ dead-letter b ⌝ }
+{
+    (b == b'D') | (b == b'd')
+}
+
 // Judges the length of row x, whose line is given; `second` is the second row's line.
 fn judge_length(n: usize, m: usize, x: usize, length: usize, line: usize, second: usize) -> Judged
     requires { ⌜ (n ≤ 30) × (m ≤ 30) ⌝ }
@@ -227,16 +236,29 @@ fn judge_length(n: usize, m: usize, x: usize, length: usize, line: usize, second
     Judged::Wrong(Wrong::Length(line, length, second, m + 2))
 }
 
+// Judges the character of a processor, which is inner or a spare.
+fn judge_processor(inner: bool, b: u8, line: usize, column: usize) -> Judged
+    ensures { λ r. ⌜ r ≡ processor-test inner b line column ⌝ }
+{
+    if is_dead_letter(b) {
+        if inner {
+            return Judged::Good;
+        }
+        return Judged::Wrong(Wrong::Dead(line, column, b));
+    }
+    if (b == b'.') | is_fault(b) {
+        return Judged::Good;
+    }
+    Judged::Wrong(Wrong::Mark(line, column, b))
+}
+
 // Judges the character in row x and column y, a space where the row has none.
 fn judge_mark(n: usize, m: usize, x: usize, y: usize, b: u8, line: usize) -> Judged
     requires { ⌜ (n ≤ 30) × (m ≤ 30) × (y < 32) ⌝ }
     ensures { λ r. ⌜ r ≡ letter-test n m x y b line ⌝ }
 {
     if array::is_processor_at(n, m, x, y) {
-        if (b == b'.') | is_fault(b) {
-            return Judged::Good;
-        }
-        return Judged::Wrong(Wrong::Mark(line, y + 1, b));
+        return judge_processor(array::is_inner_at(n, m, x, y), b, line, y + 1);
     }
     if (b == b' ') | (b == b'+') {
         return Judged::Good;
@@ -285,6 +307,19 @@ fn judge_rows(
     Judged::Good
 }
 
+// The mark of a processor, which is inner or a spare, by its character.
+fn processor_mark(inner: bool, b: u8) -> u8
+    ensures { λ r. ⌜ r ≡ processor-mark inner b ⌝ }
+{
+    if is_fault(b) {
+        return 1;
+    }
+    if is_dead_letter(b) & inner {
+        return 3;
+    }
+    0
+}
+
 // The mark of a position, by its character.
 fn mark_of(n: usize, m: usize, p: usize, b: u8) -> u8
     requires { ⌜ (n ≤ 30) × (m ≤ 30) ⌝ }
@@ -293,10 +328,7 @@ fn mark_of(n: usize, m: usize, p: usize, b: u8) -> u8
     if !array::is_processor(n, m, p) {
         return 2;
     }
-    if is_fault(b) {
-        return 1;
-    }
-    0
+    processor_mark(array::is_inner(n, m, p), b)
 }
 
 // The grid of the characters.
@@ -349,6 +381,7 @@ fn character(mark: u8) -> u8
     match mark {
         0 => b'.',
         1 => b'X',
+        3 => b'D',
         _ => b' ',
     }
 }

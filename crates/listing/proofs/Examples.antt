@@ -4,7 +4,7 @@ use mathlib.Core.Path.{refl}
 use Rattle.array.specs.Tests.{first-of, first-along}
 use Rattle.array.specs.Buffer.{span, positions-along}
 use Rattle.array.specs.Map.{faulty-mark, map-tests}
-use Rattle.paths.specs.Path.{path, none-faulty, is-open, member, share, meet, near-miss, clash, clear}
+use Rattle.paths.specs.Path.{path, none-faulty, is-free, is-open, member, share, meet, near-miss, clash, clear}
 use Rattle.plans.specs.Faults.{faults, directions-at, paired}
 use Rattle.plans.specs.Check.{pairs-test, paths-test, plan-tests}
 use Rattle.trials.specs.Trials.{offer, trials, clear-of, keeps}
@@ -24,7 +24,7 @@ unfolding
     head-line map-lines file-lines listing
     plan-repair directions-after place-cells places-after route-switches across-after down-after
     first-of first-along span positions-along faulty-mark map-tests
-    path none-faulty is-open member share meet near-miss clash clear
+    path none-faulty is-free is-open member share meet near-miss clash clear
     faults directions-at paired pairs-test paths-test plan-tests
     offer trials clear-of keeps searched planned outcome direction-of directions-written
     through placement letters entry letter across-letters down-letters
@@ -37,6 +37,9 @@ examples =
       greatest-is = refl;
       repaired = refl;
       beyond = refl;
+      dead-repaired = refl;
+      dead-beyond = refl;
+      dead-spare = refl;
       short-number = refl;
       empty = refl;
       large-size = refl;

@@ -18,6 +18,13 @@ pub record Examples : Type 0 where
       ∷ "across bcdbcdbd" ∷ "down bbbbbbbb" ∷ [])
   -- size 1 × 1, all five processors faulty
   pub beyond : listing (1 ∷ 1 ∷ 5 ∷ 0 ∷ 1 ∷ 1 ∷ 0 ∷ 1 ∷ 1 ∷ 1 ∷ 2 ∷ 2 ∷ 1 ∷ []) ≡ ascii-lines ("map 1 1 5" ∷ "beyond 4" ∷ [])
+  -- size 2 × 2 with (2, 2) dead, which takes north; size 3 × 3 with (2, 2) dead; a spare listed as dead
+  pub dead-repaired : listing (2 ∷ 2 ∷ 0 ∷ 1 ∷ 2 ∷ 2 ∷ [])
+      ≡ ascii-lines ("map 2 2 1" ∷ "repaired 2" ∷ "path 2 2 N"
+      ∷ "cell 1 1 1 1" ∷ "cell 1 2 0 2" ∷ "cell 2 1 2 1" ∷ "cell 2 2 1 2"
+      ∷ "across dbdcbdcb" ∷ "down bbbbbbbb" ∷ [])
+  pub dead-beyond : listing (3 ∷ 3 ∷ 0 ∷ 1 ∷ 2 ∷ 2 ∷ []) ≡ ascii-lines ("map 3 3 1" ∷ "beyond 4" ∷ [])
+  pub dead-spare : listing (2 ∷ 2 ∷ 0 ∷ 1 ∷ 0 ∷ 1 ∷ []) ≡ ascii-lines ("refused 20 4" ∷ [])
   -- 82 00 for N; the empty file; M is 31; (2, 1) before (1, 1)
   pub short-number : listing (130 ∷ 0 ∷ []) ≡ ascii-lines ("refused 9 0" ∷ [])
   pub empty : listing [] ≡ ascii-lines ("refused 8 0" ∷ [])

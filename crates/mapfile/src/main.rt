@@ -53,12 +53,19 @@ fn say_length(line: usize, length: usize) {
 // Tells what is wrong at a corner.
 fn say_corner(line: usize, column: usize, b: u8) {
     say_place(line, column);
-    if (b == b'X') | (b == b'x') {
+    if ((b == b'X') | (b == b'x')) | ((b == b'D') | (b == b'd')) {
         say(b"a corner has no processor, so it cannot be faulty");
         return;
     }
     say_character(b);
     say(b" at a corner, where no processor is: write a space or '+' there");
+}
+
+// Tells that a spare is marked as dead.
+fn say_dead(line: usize, column: usize, b: u8) {
+    say_place(line, column);
+    say_character(b);
+    say(b" at a spare, which cannot be dead: write 'X' for a faulty spare");
 }
 
 // Tells what is wrong with the number or the length of rows.
@@ -110,8 +117,9 @@ fn say_wrong(w: Wrong) {
         Wrong::Mark(line, column, b) => {
             say_place(line, column);
             say_character(b);
-            say(b" is neither '.' nor 'X'");
+            say(b" is none of '.', 'X' and 'D'");
         }
+        Wrong::Dead(line, column, b) => say_dead(line, column, b),
         _ => say_shape(w),
     }
     say(b"\n");
@@ -127,7 +135,7 @@ fn write_file(n: usize, m: usize, grid: &[u8; 1024], file: &mut [u8]) {
     }
 }
 
-// Turns a text into a map file.
+// Turns a text into a map file, which has at most 2,046 bytes.
 fn convert(s: &[u8]) {
     let mut grid = [2u8; 1024];
     let mut file = [0u8; 4096];

@@ -1,4 +1,4 @@
--- On an open path no processor but the start is faulty.
+-- On an open path no processor but the start is faulty, and a dead start is at the rim.
 -- Assumes nothing.
 use mathlib.Core.Path.{_≡_, sym, ap, _∙_}
 use mathlib.Core.Bool.{true, false, not, false≢true}
@@ -10,9 +10,9 @@ use borrow.Author.Tests.{eqb-true, not-true}
 use lib.Dec.{eqb}
 use lib.ListN.{drop}
 use Rattle.array.specs.Buffer.{span}
-use Rattle.array.specs.Map.{faulty}
+use Rattle.array.specs.Map.{faulty, dead}
 use Rattle.array.proofs.Bools.{and-true, or-true}
-use Rattle.paths.specs.Path.{member, ahead, path-length, path, none-faulty, is-open}
+use Rattle.paths.specs.Path.{member, ahead, path-length, path, none-faulty, is-free, from-rim, may-start, is-open}
 use Rattle.paths.proofs.Ways.{Way, south, north, east, west}
 
 none-member : (grid xs : List ℕ) (q : ℕ) → none-faulty grid xs ≡ true → member q xs ≡ true → faulty grid q ≡ false
@@ -37,5 +37,11 @@ ahead-none p d west = omega arith
 
 pub open-alone : (n m p d q : ℕ) (grid : List ℕ) → Way d → is-open n m grid p d ≡ true → member q (path n m p d) ≡ true
     → faulty grid q ≡ true → q ≡ p
-unfolding is-open path
-open-alone n m p d q grid w o h t = first-alone grid (ahead p d) (path-length n m p d) q o h t ∙ ahead-none p d w
+unfolding is-open is-free path
+open-alone n m p d q grid w o h t =
+    first-alone grid (ahead p d) (path-length n m p d) q (and-true (may-start n m grid p d) _ o .1) h t ∙ ahead-none p d w
+
+-- and a dead start is at the rim
+pub open-from-rim : (n m p d : ℕ) (grid : List ℕ) → is-open n m grid p d ≡ true → dead grid p ≡ true → from-rim n m p d ≡ true
+unfolding is-open
+open-from-rim n m p d grid o h = rw h at (and-true (may-start n m grid p d) _ o .0)

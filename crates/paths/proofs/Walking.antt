@@ -11,7 +11,7 @@ use Rattle.array.specs.Buffer.{span}
 use Rattle.array.specs.Map.{faulty-mark, faulty}
 use Rattle.array.proofs.Places.{Inner}
 use Rattle.array.proofs.Marks.{faulty-read}
-use Rattle.paths.specs.Path.{ahead, path-length, path, none-faulty, is-open}
+use Rattle.paths.specs.Path.{ahead, path-length, path, none-faulty, is-free}
 use Rattle.paths.proofs.Ways.{Way, south, north, east, west}
 
 -- a path has its fault and its spare, and at most 32 processors
@@ -26,8 +26,8 @@ abbrev pub open-from : ℕ → ℕ → List ℕ → ℕ → ℕ → ℕ → Bool
 open-from n m grid p d k = none-faulty grid (span (ahead p d) k (path-length n m p d - k))
 
 module _ (n m : ℕ) (grid : List ℕ) (p d : ℕ) where
-  pub open-start : 1 ≤ path-length n m p d → is-open n m grid p d ≡ open-from n m grid p d 1
-  unfolding is-open path span
+  pub open-start : 1 ≤ path-length n m p d → is-free n m grid p d ≡ open-from n m grid p d 1
+  unfolding is-free path span
   open-start h =
       let e : path-length n m p d ≡ suc (path-length n m p d - 1) = omega arith in
       open-at-suc (path-length n m p d) (path-length n m p d - 1) e

@@ -1,7 +1,6 @@
--- Document 01, "Paths and plans": a path is given by the position p of its fault and its direction d. It is the
--- compensation path of Kung, Jean and Chang, "Fault-Tolerant Array Processors Using Single-Track Switches", whose reconfigurability
--- theorem asks for open paths that neither meet nor nearly miss.
--- Assumes nothing.
+-- Document 01, "Paths and plans", and document 02, T-04: a path is given by the position p of its fault and its direction d.
+-- It is the compensation path of Kung, Jean and Chang, "Fault-Tolerant Array Processors Using Single-Track Switches", whose
+-- reconfigurability theorem asks for open paths that neither meet nor nearly miss. Assumes nothing.
 use Prim.Native.Nat.{ℕ, _+_, _-_, _*_, _≤_}
 use mathlib.Core.Path.{_≡_}
 use mathlib.Core.Bool.{Bool, true, false, cond, not, _&&_, _||_}
@@ -10,7 +9,7 @@ use lib.Dec.{ltb, eqb}
 use lib.ListN.{drop}
 use Rattle.array.specs.Place.{row, column, inner}
 use Rattle.array.specs.Buffer.{tabulate}
-use Rattle.array.specs.Map.{faulty}
+use Rattle.array.specs.Map.{faulty, dead}
 use Rattle.array.specs.Tests.{refuse}
 use Rattle.array.specs.declared.Verdict.{Verdict}
 use Rattle.array.specs.declared.Verdict.the-variants.{Accepted}
@@ -36,9 +35,22 @@ unfoldable pub none-faulty : List ℕ → List ℕ → Bool
 none-faulty grid [] = true
 none-faulty grid (q ∷ qs) = not (faulty grid q) && none-faulty grid qs
 
--- open: no processor after the start is faulty, the spare included
+-- open as document 01 has it: no processor after the start is faulty, the spare included
+unfoldable pub is-free : ℕ → ℕ → List ℕ → ℕ → ℕ → Bool
+is-free n m grid p d = none-faulty grid (drop 1 (path n m p d))
+
+-- T-04: south from row 1, north from row N, east from column 1, west from column M. Such a path runs across the whole array,
+-- and no link to a neighbour runs through its start.
+abbrev pub from-rim : ℕ → ℕ → ℕ → ℕ → Bool
+from-rim n m p d = by-direction d (eqb (row p) 1) (eqb (row p) n) (eqb (column p) 1) (eqb (column p) m) false
+
+-- where a path may start: at a dead processor only from the rim, at another fault in every direction
+abbrev pub may-start : ℕ → ℕ → List ℕ → ℕ → ℕ → Bool
+may-start n m grid p d = not (dead grid p) || from-rim n m p d
+
+-- open: this is what plan check, trials, beyond repair and demand 3 take
 unfoldable pub is-open : ℕ → ℕ → List ℕ → ℕ → ℕ → Bool
-is-open n m grid p d = none-faulty grid (drop 1 (path n m p d))
+is-open n m grid p d = may-start n m grid p d && is-free n m grid p d
 
 unfoldable pub member : ℕ → List ℕ → Bool
 member q [] = false

@@ -5,7 +5,7 @@ use table::CLASHES;
 ghost use mathlib.Core.Path.{_≡_};
 ghost use Prim.Native.Nat.{_≤_, _<_, _-_};
 ghost use lib.ListN.{length};
-ghost use Rattle.paths.specs.Path.{ahead, path-length, is-open, refuse-clash, Start};
+ghost use Rattle.paths.specs.Path.{ahead, path-length, is-free, from-rim, is-open, refuse-clash, Start};
 ghost use Rattle.paths.specs.Table.{class, entry, byte-of, Clash-table, Table-agrees};
 ghost use Rattle.paths.specs.Inner.{clash-of, Path-at};
 
@@ -44,10 +44,25 @@ pub fn step_ahead(n: usize, m: usize, p: usize, d: u8, k: usize) -> usize
     }
 }
 
+// Whether a path runs across the whole array.
+fn is_from_rim(n: usize, m: usize, p: usize, d: u8) -> bool
+    requires { ⌜ Start n m p d ⌝ }
+    ensures { λ r. ⌜ r ≡ from-rim n m p d ⌝ }
+{
+    let x = p / 32;
+    let y = p % 32;
+    match d {
+        1 => x == 1,
+        2 => x == n,
+        3 => y == 1,
+        _ => y == m,
+    }
+}
+
 // Whether no processor after the start is faulty.
-pub fn is_open(n: usize, m: usize, grid: &[u8], p: usize, d: u8) -> bool
+fn is_free(n: usize, m: usize, grid: &[u8], p: usize, d: u8) -> bool
     requires { ⌜ Start n m p d × (length (now grid) ≡ 1024) ⌝ }
-    ensures { λ r. ⌜ r ≡ is-open n m (now (grid .entry)) p d ⌝ }
+    ensures { λ r. ⌜ r ≡ is-free n m (now (grid .entry)) p d ⌝ }
 {
     let count = length_of(n, m, p, d);
     for k in 1..count {
@@ -56,6 +71,17 @@ pub fn is_open(n: usize, m: usize, grid: &[u8], p: usize, d: u8) -> bool
         }
     }
     true
+}
+
+// Whether a path is open: from a dead processor it runs across the whole array, and no processor after the start is faulty.
+pub fn is_open(n: usize, m: usize, grid: &[u8], p: usize, d: u8) -> bool
+    requires { ⌜ Start n m p d × (length (now grid) ≡ 1024) ⌝ }
+    ensures { λ r. ⌜ r ≡ is-open n m (now (grid .entry)) p d ⌝ }
+{
+    if array::is_dead(grid[p]) & !is_from_rim(n, m, p, d) {
+        return false;
+    }
+    is_free(n, m, grid, p, d)
 }
 
 // The clash table, for a caller to lend: a constant is written out anew wherever it is named.

@@ -8,22 +8,25 @@ use native.Mathlib.Omega.{arith}
 use lib.Dec.{leb, eqb}
 use lib.ListN.{length, getD, set}
 use borrow.Author.Tests.{leb-true, eqb-true, lt-ltb, le-ltb, eq-eqb, ne-eqb}
-use Rattle.array.specs.Place.{position, size, processor-at, inner-at}
+use Rattle.array.specs.Place.{position, size, inner-at}
 use Rattle.array.specs.Buffer.{buffer}
 use Rattle.array.specs.Tests.{refusal}
+use Rattle.array.specs.Map.{faulty-mark, faulty}
 use Rattle.array.specs.declared.Refusal.{Refusal}
 use Rattle.array.proofs.Bools.{and-true, by-bool, cond-taken, cond-left}
 use Rattle.array.proofs.Places.{inner-stands, processor-within}
 use Rattle.array.proofs.Fills.{tabulate-length, tabulate-at}
 use Rattle.array.proofs.Marks.{faulty-read}
 use Rattle.formats.specs.Number.{number-at, size-at, refused}
-use Rattle.formats.specs.Records.{healthy-grid, blank, recorded}
+use Rattle.formats.specs.Records.{healthy-grid, blank}
 use Rattle.formats.specs.declared.Number.{Number}
 use Rattle.formats.specs.declared.Number.the-variants.{Read, Refused}
 use Rattle.formats.specs.declared.Kind.{Kind}
 use Rattle.formats.specs.declared.Kind.the-variants.{Map, Plan}
-use Rattle.readers.specs.Reading.{no-record, mark-in-order, mark-fault, mark-path, record-at, records-at, whole-file, body-at, read-file}
-use Rattle.readers.specs.Parts.{blank-mark, stands-at, value-at, is-value, marked}
+use Rattle.formats.specs.declared.Record.{Record}
+use Rattle.formats.specs.declared.Record.the-variants.{Fault, Dead, Path}
+use Rattle.readers.specs.Reading.{no-record, mark-in-order, mark-fault, mark-dead, mark-path, record-at, records-at, whole-file, second-at, rest-at, body-at, read-file}
+use Rattle.readers.specs.Parts.{blank-mark, stands-at, off-number, repeated, value-at, is-value, marked}
 use Rattle.readers.specs.declared.Step.{Step}
 use Rattle.readers.specs.declared.Head.{Head}
 use Rattle.readers.specs.declared.Step.the-variants as step
@@ -73,74 +76,96 @@ pub blank-at : (kind : Kind) (n m p : ℕ) → p < 1024 → getD (blank kind n m
 blank-at kind n m p l = ap (λ (b : List ℕ). getD b p 0) (blank-is kind n m) ∙ tabulate-at (blank-mark kind n m) 1024 p 0 l
 
 -- the row and the column of a record that may stand
-pub stands-within : (kind : Kind) (n m x y : ℕ) → stands-at kind n m x y ≡ true → (x ≤ n + 1) × (y ≤ m + 1)
-stands-within Map n m x y t = processor-within n m x y t
-stands-within Plan n m x y t = processor-within n m x y (inner-stands n m x y t)
+pub stands-within : (kind : Record) (n m x y : ℕ) → stands-at kind n m x y ≡ true → (x ≤ n + 1) × (y ≤ m + 1)
+stands-within Fault n m x y t = processor-within n m x y t
+stands-within Dead n m x y t = processor-within n m x y (inner-stands n m x y t)
+stands-within Path n m x y t = processor-within n m x y (inner-stands n m x y t)
 
 -- a value that a record may write
-pub value-low : (kind : Kind) (v : ℕ) → is-value kind v ≡ true → v ≤ 4
-value-low Map v t = let e : v ≡ 1 = eqb-true v 1 t in omega arith
-value-low Plan v t = leb-true v 4 (and-true (leb 1 v) (leb v 4) t .1)
+pub value-low : (kind : Record) (v : ℕ) → is-value kind v ≡ true → v ≤ 4
+value-low Fault v t = let e : v ≡ 1 = eqb-true v 1 t in omega arith
+value-low Dead v t = let e : v ≡ 3 = eqb-true v 3 t in omega arith
+value-low Path v t = leb-true v 4 (and-true (leb 1 v) (leb v 4) t .1)
 
 swap : {A : Type 0} (t : Bool) (a b : A) → cond t a b ≡ cond (not t) b a
 swap true a b = refl
 swap false a b = refl
 
 module _ (n m : ℕ) (small : (n ≤ 30) × (m ≤ 30)) (at before x y next : ℕ) (b : List ℕ) (w : length b ≡ 1024) where
-  fault-marked : mark-fault n m at before x y next b ≡ marked Map n m at before x y 1 next b
-  fault-marked =
-      by-bool (processor-at n m x y)
+  -- a mark v is judged in the buffer as in the grid
+  mark-marked :
+      (kind : Record) (v : ℕ) →
+      cond (stands-at kind n m x y)
+      (cond (faulty b (position x y)) (no-record 11 at b) (mark-in-order at before (position x y) v next b))
+      (no-record (off-number kind) at b)
+      ≡ cond (stands-at kind n m x y)
+      (cond (faulty-mark (getD b (position x y) 0)) (no-record 11 at b) (mark-in-order at before (position x y) v next b))
+      (no-record (off-number kind) at b)
+  mark-marked kind v =
+      by-bool (stands-at kind n m x y)
       (λ t.
-      let l = stands-within Map n m x y t in
+      let l = stands-within kind n m x y t in
       cond-taken _ _ refl t
-      ∙ ap (λ (z : Bool). cond z (no-record 11 at b) (mark-in-order at before (position x y) 1 next b))
+      ∙ ap (λ (z : Bool). cond z (no-record 11 at b) (mark-in-order at before (position x y) v next b))
       (faulty-read b (position x y) (omega arith))
       ∙ sym (cond-taken _ _ refl t))
       (λ t. cond-left _ _ refl t ∙ sym (cond-left _ _ refl t))
 
-  path-marked : (d : ℕ) → mark-path n m at before x y d next b ≡ marked Plan n m at before x y d next b
+  fault-marked : mark-fault n m at before x y next b ≡ marked Fault n m at before x y 1 next b
+  fault-marked = mark-marked Fault 1
+
+  dead-marked : mark-dead n m at before x y next b ≡ marked Dead n m at before x y 3 next b
+  dead-marked = mark-marked Dead 3
+
+  path-marked : (d : ℕ) → mark-path n m at before x y d next b ≡ marked Path n m at before x y d next b
   path-marked d = ap (λ (z : Step × List ℕ). cond (inner-at n m x y) z (no-record 10 at b)) (swap (eqb (getD b (position x y) 0) 0) _ _)
 
 module _ (s : List ℕ) (n m at before : ℕ) (b : List ℕ) where
-  pub no-row : (kind : Kind) (e : Refusal) → number-at s at ≡ Refused e → record-at kind s n m at before b ≡ (step.Refused e, b)
+  pub no-row : (kind : Record) (e : Refusal) → number-at s at ≡ Refused e → record-at kind s n m at before b ≡ (step.Refused e, b)
   unfolding record-at
-  no-row Map e q = rw q
-  no-row Plan e q = rw q
+  no-row Fault e q = rw q
+  no-row Dead e q = rw q
+  no-row Path e q = rw q
 
   module _ (x a : ℕ) (q : number-at s at ≡ Read x a) where
-    pub no-column : (kind : Kind) (e : Refusal) → number-at s a ≡ Refused e → record-at kind s n m at before b ≡ (step.Refused e, b)
+    pub no-column : (kind : Record) (e : Refusal) → number-at s a ≡ Refused e → record-at kind s n m at before b ≡ (step.Refused e, b)
     unfolding record-at
-    no-column Map e r = rw (q, r)
-    no-column Plan e r = rw (q, r)
+    no-column Fault e r = rw (q, r)
+    no-column Dead e r = rw (q, r)
+    no-column Path e r = rw (q, r)
 
     module _ (y c : ℕ) (r : number-at s a ≡ Read y c) where
       pub no-value :
-          (kind : Kind) (e : Refusal) → value-at kind s c ≡ Refused e → record-at kind s n m at before b ≡ (step.Refused e, b)
+          (kind : Record) (e : Refusal) → value-at kind s c ≡ Refused e → record-at kind s n m at before b ≡ (step.Refused e, b)
       unfolding record-at
-      no-value Map e t = absurd (let z : _≡_ {A = ℕ} 0 1 = cc in omega arith)
-      no-value Plan e t = rw (q, r, t)
+      no-value Fault e t = absurd (let z : _≡_ {A = ℕ} 0 1 = cc in omega arith)
+      no-value Dead e t = absurd (let z : _≡_ {A = ℕ} 0 1 = cc in omega arith)
+      no-value Path e t = rw (q, r, t)
+
+      as-read :
+          (kind : Record) (u v next : ℕ) → Read u c ≡ Read v next
+          → marked kind n m at before x y u c b ≡ marked kind n m at before x y v next b
+      as-read kind u v next t =
+          let e : u ≡ v = cc in
+          let f : c ≡ next = cc in
+          rw (e, f)
 
       pub record-marked :
           (small : (n ≤ 30) × (m ≤ 30)) →
           length b ≡ 1024 →
-          (kind : Kind) (v next : ℕ) →
+          (kind : Record) (v next : ℕ) →
           value-at kind s c ≡ Read v next →
           record-at kind s n m at before b ≡ marked kind n m at before x y v next b
       unfolding record-at
-      record-marked small w Map v next t =
-          let e : 1 ≡ v = cc in
-          let f : c ≡ next = cc in
-          rw (q, r)
-          (fault-marked n m small at before x y c b w
-          ∙ ap (λ (z : ℕ). marked Map n m at before x y z c b) e
-          ∙ ap (λ (z : ℕ). marked Map n m at before x y v z b) f)
-      record-marked small w Plan v next t = rw (q, r, t) (path-marked n m small at before x y next b w v)
+      record-marked small w Fault v next t = rw (q, r) (fault-marked n m small at before x y c b w ∙ as-read Fault 1 v next t)
+      record-marked small w Dead v next t = rw (q, r) (dead-marked n m small at before x y c b w ∙ as-read Dead 3 v next t)
+      record-marked small w Path v next t = rw (q, r, t) (path-marked n m small at before x y next b w v)
 
--- a record that passes 10, 11 and 13 is left to its order
+-- a record that passes 10 or 20, 11 and 13 is left to its order
 pub marked-in-order :
-    (kind : Kind) (n m at before x y v next : ℕ) (b : List ℕ) →
+    (kind : Record) (n m at before x y v next : ℕ) (b : List ℕ) →
     stands-at kind n m x y ≡ true →
-    recorded kind (position x y) (getD b (position x y) 0) ≡ false →
+    repeated kind (getD b (position x y) 0) ≡ false →
     is-value kind v ≡ true →
     marked kind n m at before x y v next b ≡ mark-in-order at before (position x y) v next b
 marked-in-order kind n m at before x y v next b s f t = cond-taken _ _ refl s ∙ cond-left _ _ refl f ∙ cond-taken _ _ refl t
@@ -153,7 +178,7 @@ module _ (at before p v next : ℕ) (b : List ℕ) where
   pub out-of-order : p < before → mark-in-order at before p v next b ≡ no-record 19 at b
   out-of-order l = rw (lt-ltb _ _ l)
 
-module _ (kind : Kind) (s : List ℕ) (n m k at before : ℕ) (b : List ℕ) where
+module _ (kind : Record) (s : List ℕ) (n m k at before : ℕ) (b : List ℕ) where
   pub more-suc :
       (next p : ℕ) (c : List ℕ) →
       record-at kind s n m at before b ≡ (step.Next next p, c) →
@@ -168,7 +193,7 @@ module _ (kind : Kind) (s : List ℕ) (n m k at before : ℕ) (b : List ℕ) whe
   unfolding records-at
   stop-suc e c q = rw q
 
-module _ (kind : Kind) (s : List ℕ) (n m k at before : ℕ) (b : List ℕ) (l : 0 < k) where
+module _ (kind : Record) (s : List ℕ) (n m k at before : ℕ) (b : List ℕ) (l : 0 < k) where
   some : k ≡ suc (k - 1)
   some = omega arith
 
@@ -186,7 +211,7 @@ module _ (kind : Kind) (s : List ℕ) (n m k at before : ℕ) (b : List ℕ) (l 
   stop e c q = ap (λ (j : ℕ). records-at kind s n m j at before b) some ∙ stop-suc kind s n m (k - 1) at before b e c q
 
 pub none-left :
-    (kind : Kind) (s : List ℕ) (n m at before : ℕ) (b : List ℕ) → records-at kind s n m 0 at before b ≡ (step.Next at before, b)
+    (kind : Record) (s : List ℕ) (n m at before : ℕ) (b : List ℕ) → records-at kind s n m 0 at before b ≡ (step.Next at before, b)
 unfolding records-at
 none-left kind s n m at before b = refl
 
@@ -201,6 +226,34 @@ module _ (s : List ℕ) (head : Head) (lent : List ℕ) {x : Step × List ℕ} w
 
     pub whole-read : length s ≤ at → whole-file s head lent x ≡ (file.File head, b)
     whole-read l = rw (u, le-ltb _ _ l)
+
+-- T-04: what follows the first list, from what its records answered
+module _ (s : List ℕ) (head : Head) (lent : List ℕ) where
+  pub rest-refused :
+      (kind : Kind) (e : Refusal) (b : List ℕ) {x : Step × List ℕ} →
+      x ≡ (step.Refused e, b) →
+      rest-at kind s head lent x ≡ (file.Refused e, lent)
+  rest-refused Map e b u = rw u
+  rest-refused Plan e b u = rw u
+
+  module _ (at p : ℕ) (b : List ℕ) where
+    pub second-none : length s ≤ at → second-at s head lent (step.Next at p, b) ≡ (file.File head, b)
+    second-none l = rw (le-ltb _ _ l)
+
+    module _ (l : at < length s) where
+      pub second-cut : (e : Refusal) → number-at s at ≡ Refused e → second-at s head lent (step.Next at p, b) ≡ (file.Refused e, lent)
+      second-cut e q = rw (lt-ltb _ _ l, q)
+
+      module _ (k a : ℕ) (q : number-at s at ≡ Read k a) where
+        pub second-zero : k ≡ 0 → second-at s head lent (step.Next at p, b) ≡ (file.Refused (refusal 12 at 0), lent)
+        second-zero z = rw (lt-ltb _ _ l, q, eq-eqb k 0 z)
+
+        pub second-some :
+            (k ≡ 0 → ⊥) →
+            second-at s head lent (step.Next at p, b)
+            ≡ whole-file s (record { rows = head .rows; columns = head .columns; count = head .count + k }) lent
+            (records-at Dead s (head .rows) (head .columns) k a 0 b)
+        second-some z = rw (lt-ltb _ _ l, q, ne-eqb k 0 z)
 
 module _ (kind : Kind) (s lent : List ℕ) where
   pub file-short : (length lent ≡ 1024 → ⊥) → read-file kind s lent ≡ (file.Refused (refusal 2 0 0), lent)

@@ -1,4 +1,4 @@
--- The numbers of the readers, 1, 2, 8 to 13 and 19, are those of the documents.
+-- The numbers of the readers, 1, 2, 8 to 13, 19 and 20, are those of the documents.
 -- Assumes nothing.
 use Prim.Native.Nat.{ℕ, zero, suc}
 use mathlib.Core.List.{List, [], _∷_}
@@ -6,8 +6,10 @@ use Rattle.array.specs.Tests.{Told, accepts, refuses-as}
 use Rattle.array.proofs.Numbered.{Numbered-as, numbers}
 use Rattle.formats.specs.declared.Kind.{Kind}
 use Rattle.formats.specs.declared.Kind.the-variants.{Map, Plan}
+use Rattle.formats.specs.declared.Record.{Record}
+use Rattle.formats.specs.declared.Record.the-variants.{Fault, Dead, Path}
 use Rattle.formats.proofs.Numbered.{number-numbered, numbered-read, size-at-numbered}
-use Rattle.readers.specs.Reading.{told, record-at, and-then, records-at, whole-file, read-file}
+use Rattle.readers.specs.Reading.{told, record-at, and-then, records-at, whole-file, rest-at, read-file}
 use Rattle.readers.specs.declared.Head.{Head}
 use Rattle.readers.specs.declared.Step.{Step}
 use Rattle.readers.specs.declared.FileRead.{FileRead}
@@ -20,18 +22,19 @@ step-told (step.Refused r, b) = refuses-as r
 abbrev file-told : FileRead × List ℕ → Told
 file-told x = told (x .0)
 
-record-numbered : (kind : Kind) (s : List ℕ) (n m at before : ℕ) (b : List ℕ)
+record-numbered : (kind : Record) (s : List ℕ) (n m at before : ℕ) (b : List ℕ)
     → Numbered-as step-told (record-at kind s n m at before b)
 unfolding record-at
-record-numbered Map s n m at before b = search (numbers, numbered-read, number-numbered) depth 9
-record-numbered Plan s n m at before b = search (numbers, numbered-read, number-numbered) depth 9
+record-numbered Fault s n m at before b = search (numbers, numbered-read, number-numbered) depth 9
+record-numbered Dead s n m at before b = search (numbers, numbered-read, number-numbered) depth 9
+record-numbered Path s n m at before b = search (numbers, numbered-read, number-numbered) depth 9
 
 numbered-then : (x : Step × List ℕ) {f : ℕ → ℕ → List ℕ → Step × List ℕ} → Numbered-as step-told x
     → ((at p : ℕ) (b : List ℕ) → Numbered-as step-told (f at p b)) → Numbered-as step-told (and-then x f)
 numbered-then (step.Next at p, b) h g = g at p b
 numbered-then (step.Refused r, b) h g = h
 
-records-numbered : (kind : Kind) (s : List ℕ) (n m k at before : ℕ) (b : List ℕ)
+records-numbered : (kind : Record) (s : List ℕ) (n m k at before : ℕ) (b : List ℕ)
     → Numbered-as step-told (records-at kind s n m k at before b)
 unfolding records-at
 records-numbered kind s n m zero at before b = search numbers
@@ -44,7 +47,14 @@ numbered-whole : (s : List ℕ) (head : Head) (lent : List ℕ) (x : Step × Lis
 numbered-whole s head lent (step.Next at p, b) h = search numbers
 numbered-whole s head lent (step.Refused r, b) h = record { numbered = h .numbered }
 
+numbered-rest : (kind : Kind) (s : List ℕ) (head : Head) (lent : List ℕ) (x : Step × List ℕ) → Numbered-as step-told x
+    → Numbered-as file-told (rest-at kind s head lent x)
+numbered-rest Map s head lent (step.Next at p, b) h =
+    search (numbers, numbered-read, number-numbered, numbered-whole, records-numbered) depth 9
+numbered-rest Map s head lent (step.Refused r, b) h = record { numbered = h .numbered }
+numbered-rest Plan s head lent x h = numbered-whole s head lent x h
+
 pub file-numbered : (kind : Kind) (s lent : List ℕ) → Numbered-as file-told (read-file kind s lent)
 unfolding read-file
 file-numbered kind s lent =
-    search (numbers, numbered-read, number-numbered, size-at-numbered, numbered-whole, records-numbered) depth 9
+    search (numbers, numbered-read, number-numbered, size-at-numbered, numbered-rest, records-numbered) depth 9

@@ -4,28 +4,38 @@ use Prim.Native.Nat.{ℕ, zero, suc, _+_, _<_, _≤_}
 use mathlib.Core.Path.{_≡_, refl, sym, ap, _∙_}
 use mathlib.Core.Bool.{true, false, _&&_}
 use mathlib.Core.List.{List}
+use mathlib.Core.Logic.{_⊎_, inl, inr}
+use native.Mathlib.Nat.{add-zero}
 use native.Mathlib.Omega.{arith}
 use lib.ListN.{length, getD, set, length-set}
 use Rattle.array.specs.Place.{row, column, position, size}
 use Rattle.array.specs.declared.Refusal.{Refusal}
 use Rattle.array.proofs.Bools.{by-bool, by-eq, by-lt, and-both, cond-taken, cond-left}
-use Rattle.array.proofs.Places.{sized}
 use Rattle.formats.specs.Number.{number-at, size-at}
-use Rattle.formats.specs.Records.{recorded, blank}
+use Rattle.formats.specs.Records.{blank, first-list}
 use Rattle.formats.specs.declared.Number.{Number}
 use Rattle.formats.specs.declared.Number.the-variants.{Read, Refused}
 use Rattle.formats.specs.declared.Kind.{Kind}
-use Rattle.readers.specs.Reading.{record-at, records-at, read-file}
-use Rattle.readers.specs.Parts.{stands-at, value-at, is-value, marked}
+use Rattle.formats.specs.declared.Kind.the-variants.{Map, Plan}
+use Rattle.formats.specs.declared.Record.{Record}
+use Rattle.formats.specs.declared.Record.the-variants.{Dead}
+use Rattle.formats.proofs.Cases.{ended}
+use Rattle.readers.specs.Reading.{record-at, records-at, whole-file, rest-at, read-file}
+use Rattle.readers.specs.Parts.{stands-at, repeated, value-at, is-value, marked}
 use Rattle.readers.specs.declared.Step.{Step}
 use Rattle.readers.specs.declared.Head.{Head}
 use Rattle.readers.specs.declared.FileRead.{FileRead}
 use Rattle.readers.specs.declared.Step.the-variants as step
 use Rattle.readers.specs.declared.FileRead.the-variants as file
-use Rattle.readers.proofs.Cases.{blank-length, size-number, stands-within, marked-in-order, in-order, out-of-order, no-row, no-column, no-value, record-marked, more-suc, stop-suc, none-left, whole-refused, whole-more, whole-read, file-short, no-rows, no-columns, no-count, head-read}
+use Rattle.readers.proofs.Cases.{size-number, stands-within, marked-in-order, in-order, out-of-order, no-row, no-column, no-value, record-marked, more-suc, stop-suc, none-left, whole-more, whole-read, rest-refused, second-none, second-cut, second-zero, second-some, file-short, no-rows, no-columns, no-count, head-read}
+
+-- a list of k records that is taken from its start to its end, into the buffer b, which becomes c
+pub record List-taken (kind : Record) (s : List ℕ) (n m k start end : ℕ) (b c : List ℕ) : Type 0 where
+  pub last : ℕ
+  pub records-read : records-at kind s n m k start 0 b ≡ (step.Next end last, c)
 
 -- a record at an offset that is taken for position p, into the buffer b, which becomes c: its numbers, and what its tests found
-pub record Taken (kind : Kind) (s : List ℕ) (n m at before : ℕ) (b : List ℕ) (next p : ℕ) (c : List ℕ) : Type 0 where
+pub record Taken (kind : Record) (s : List ℕ) (n m at before : ℕ) (b : List ℕ) (next p : ℕ) (c : List ℕ) : Type 0 where
   pub second : ℕ
   pub third : ℕ
   pub v : ℕ
@@ -34,12 +44,12 @@ pub record Taken (kind : Kind) (s : List ℕ) (n m at before : ℕ) (b : List �
   pub value-read : value-at kind s third ≡ Read v next
   pub low : p < 1024
   pub stands : stands-at kind n m (row p) (column p) ≡ true
-  pub free : recorded kind p (getD b p 0) ≡ false
+  pub free : repeated kind (getD b p 0) ≡ false
   pub value : is-value kind v ≡ true
   pub ascends : before ≤ p
   pub stored : set b p v ≡ c
 
-module _ (kind : Kind) (s : List ℕ) (n m : ℕ) (small : (n ≤ 30) × (m ≤ 30)) where
+module _ (kind : Record) (s : List ℕ) (n m : ℕ) (small : (n ≤ 30) × (m ≤ 30)) where
   module _ (at before : ℕ) (b : List ℕ) (w : length b ≡ 1024) (next p : ℕ) (c : List ℕ) where
     abbrev T : Type 0
     T = Taken kind s n m at before b next p c
@@ -53,7 +63,7 @@ module _ (kind : Kind) (s : List ℕ) (n m : ℕ) (small : (n ≤ 30) × (m ≤ 
         (t : value-at kind s third ≡ Read v end) where
       good-taken :
           stands-at kind n m x y ≡ true →
-          recorded kind (position x y) (getD b (position x y) 0) ≡ false →
+          repeated kind (getD b (position x y) 0) ≡ false →
           is-value kind v ≡ true →
           before ≤ position x y →
           _≡_ {A = Step × List ℕ} (step.Next end (position x y), set b (position x y) v) (step.Next next p, c) →
@@ -84,7 +94,7 @@ module _ (kind : Kind) (s : List ℕ) (n m : ℕ) (small : (n ≤ 30) × (m ≤ 
       marked-taken q =
           by-bool (stands-at kind n m x y)
           (λ f.
-          by-bool (recorded kind (position x y) (getD b (position x y) 0))
+          by-bool (repeated kind (getD b (position x y) 0))
           (λ g. no (sym (cond-taken _ _ refl f ∙ cond-taken _ _ refl g) ∙ q))
           (λ g.
           by-bool (is-value kind v)
@@ -146,65 +156,167 @@ module _ (kind : Kind) (s : List ℕ) (n m : ℕ) (small : (n ≤ 30) × (m ≤ 
             let l : length d ≡ 1024 = ap length (sym (t .stored)) ∙ length-set b p (t .v) ∙ w in
             rw e at (on next p d l (keeps j at before b next p d w h t) (sym (more-suc kind s n m k at before b next p d u) ∙ q))
 
--- a file that is accepted: its numbers, and its records to its end
+    -- the same of a whole list
+    pub list-keeps :
+        {k start end : ℕ} {b c : List ℕ} →
+        length b ≡ 1024 →
+        P 0 start 0 b →
+        (t : List-taken kind s n m k start end b c) →
+        (length c ≡ 1024) × P (0 + k) end (t .last) c
+    list-keeps {k} {start} {end} {b} {c} w h t = records-keep k 0 start 0 end (t .last) b c w h (t .records-read)
+
+-- what follows the first list of a file: nothing, or the second list of a map, of at least one record
+pub record Ended (s : List ℕ) (at : ℕ) (b c : List ℕ) (more : ℕ) : Type 0 where
+  pub ends : length s ≤ at
+  pub same : b ≡ c
+  pub none : more ≡ 0
+
+pub record Second-taken (s : List ℕ) (n m at : ℕ) (b c : List ℕ) (more : ℕ) : Type 0 where
+  pub start : ℕ
+  pub end : ℕ
+  pub count-read : number-at s at ≡ Read more start
+  pub some : more ≡ 0 → ⊥
+  pub list-read : List-taken Dead s n m more start end b c
+  pub ends : length s ≤ end
+
+abbrev pub Rest-taken : Kind → List ℕ → ℕ → ℕ → ℕ → List ℕ → List ℕ → ℕ → Type 0
+Rest-taken Map s n m at b c more = Ended s at b c more ⊎ Second-taken s n m at b c more
+Rest-taken Plan s n m at b c more = Ended s at b c more
+
+-- a file that is accepted: its numbers, and its lists to its end
 pub record File-taken (kind : Kind) (s b : List ℕ) (head : Head) : Type 0 where
   pub second : ℕ
   pub third : ℕ
   pub start : ℕ
   pub end : ℕ
-  pub last : ℕ
+  pub count : ℕ
+  pub more : ℕ
+  pub first : List ℕ
   pub rows-read : size-at s 0 ≡ Read (head .rows) second
   pub columns-read : size-at s second ≡ Read (head .columns) third
-  pub count-read : number-at s third ≡ Read (head .count) start
-  pub records-read :
-      records-at kind s (head .rows) (head .columns) (head .count) start 0 (blank kind (head .rows) (head .columns)) ≡ (step.Next end last, b)
-  pub ends : length s ≤ end
+  pub count-read : number-at s third ≡ Read count start
+  pub first-read :
+      List-taken (first-list kind) s (head .rows) (head .columns) count start end (blank kind (head .rows) (head .columns)) first
+  pub rest-read : Rest-taken kind s (head .rows) (head .columns) end first b more
+  pub both : count + more ≡ head .count
+
+abbrev headed : ℕ → ℕ → ℕ → Head
+headed n m k = record { rows = n; columns = m; count = k }
+
+-- what an answer that accepts says of the last list, and of what follows the first
+module _ (s lent b : List ℕ) (head : Head) where
+  no-file : {A : Type 0} {e : Refusal} {d : List ℕ} → _≡_ {A = FileRead × List ℕ} (file.Refused e, d) (file.File head, b) → A
+  no-file {A} {e} {d} q =
+      let z : file.Refused e ≡ file.File head = ap (λ (x : FileRead × List ℕ). x .0) q in
+      absurd (let z : _≡_ {A = ℕ} 0 1 = cc z in omega arith)
+
+  record Whole (h : Head) (x : Step × List ℕ) : Type 0 where
+    end : ℕ
+    last : ℕ
+    read : x ≡ (step.Next end last, b)
+    ends : length s ≤ end
+    is-head : h ≡ head
+
+  whole-taken : (h : Head) (x : Step × List ℕ) → whole-file s h lent x ≡ (file.File head, b) → Whole h x
+  whole-taken h (step.Refused e, c) q = no-file q
+  whole-taken h (step.Next at p, c) q =
+      by-lt at (length s)
+      (λ l. no-file (sym (whole-more s h lent at p c refl l) ∙ q))
+      (λ l.
+      let f = sym (whole-read s h lent at p c refl l) ∙ q in
+      record {
+        end = at;
+        last = p;
+        read = ap (λ (x : FileRead × List ℕ). (step.Next at p, x .1)) f;
+        ends = l;
+        is-head = cc (ap (λ (x : FileRead × List ℕ). x .0) f);
+      })
+
+  module _ (n m k at p : ℕ) (c : List ℕ) where
+    record Rest (kind : Kind) : Type 0 where
+      more : ℕ
+      taken : Rest-taken kind s n m at c b more
+      is-head : headed n m (k + more) ≡ head
+
+    rest-taken : (kind : Kind) → rest-at kind s (headed n m k) lent (step.Next at p, c) ≡ (file.File head, b) → Rest kind
+    rest-taken Map q =
+        by-lt at (length s) (λ l. by-number l (number-at s at) refl)
+        (λ l.
+        let f = sym (second-none s (headed n m k) lent at p c l) ∙ q in
+        record {
+          more = 0;
+          taken = inl (record { ends = l; same = ap (λ (x : FileRead × List ℕ). x .1) f; none = refl });
+          is-head = rw (add-zero k) (cc (ap (λ (x : FileRead × List ℕ). x .0) f));
+        })
+      where
+        by-number : at < length s → (r : Number) → number-at s at ≡ r → Rest Map
+        by-number l (Refused e) u = no-file (sym (second-cut s (headed n m k) lent at p c l e u) ∙ q)
+        by-number l (Read j a) u =
+            by-eq j 0
+            (λ z. no-file (sym (second-zero s (headed n m k) lent at p c l j a u z) ∙ q))
+            (λ z.
+            let t = whole-taken (headed n m (k + j)) _ (sym (second-some s (headed n m k) lent at p c l j a u z) ∙ q) in
+            record {
+              more = j;
+              taken =
+                  inr
+                  (record {
+                    start = a;
+                    end = t .end;
+                    count-read = u;
+                    some = z;
+                    list-read = record { last = t .last; records-read = t .read };
+                    ends = t .ends;
+                  });
+              is-head = t .is-head;
+            })
+    rest-taken Plan q =
+        let t = whole-taken (headed n m k) (step.Next at p, c) q in
+        let e : step.Next at p ≡ step.Next (t .end) (t .last) = ap (λ (x : Step × List ℕ). x .0) (t .read) in
+        let f : at ≡ t .end = cc e in
+        record {
+          more = 0;
+          taken = record { ends = omega (arith, t .ends, f); same = ap (λ (x : Step × List ℕ). x .1) (t .read); none = refl };
+          is-head = rw (add-zero k) (t .is-head);
+        }
 
 module _ (kind : Kind) (s lent b : List ℕ) (head : Head) (q : read-file kind s lent ≡ (file.File head, b)) where
   abbrev F : Type 0
   F = File-taken kind s b head
 
   refused : {A : Type 0} {e : Refusal} {d : List ℕ} → read-file kind s lent ≡ (file.Refused e, d) → A
-  refused {A} {e} {d} r =
-      let z : file.Refused e ≡ file.File head = ap (λ (x : FileRead × List ℕ). x .0) (sym r ∙ q) in
-      absurd (let z : _≡_ {A = ℕ} 0 1 = cc z in omega arith)
+  refused r = no-file s lent b head (sym r ∙ q)
 
   module _ (w : length lent ≡ 1024) (n a m d k e : ℕ) (u : size-at s 0 ≡ Read n a) (v : size-at s a ≡ Read m d) (t : number-at s d ≡ Read k e)
     where
-      whole : (r : Step × List ℕ) → records-at kind s n m k e 0 (blank kind n m) ≡ r → F
-      whole (step.Refused x, c) z =
-          refused (head-read kind s lent w n a u m d v k e t ∙ whole-refused s _ lent x c z)
-      whole (step.Next at p, c) z =
-          by-lt at (length s)
-          (λ l. refused (head-read kind s lent w n a u m d v k e t ∙ whole-more s _ lent at p c z l))
-          (λ l.
-          let f = sym (head-read kind s lent w n a u m d v k e t ∙ whole-read s _ lent at p c z l) ∙ q in
-          let y : record { rows = n; columns = m; count = k } ≡ head = cc (ap (λ (x : FileRead × List ℕ). x .0) f) in
-          let x : c ≡ b = ap (λ (x : FileRead × List ℕ). x .1) f in
-          rw (y, x) at (found at p c z l))
+      listed : (r : Step × List ℕ) → records-at (first-list kind) s n m k e 0 (blank kind n m) ≡ r → F
+      listed (step.Refused x, c) z = refused (head-read kind s lent w n a u m d v k e t ∙ rest-refused s _ lent kind x c z)
+      listed (step.Next at p, c) z =
+          let y = rest-taken s lent b head n m k at p c kind
+          (ap (rest-at kind s (headed n m k) lent) (sym z) ∙ sym (head-read kind s lent w n a u m d v k e t) ∙ q) in
+          rw (y .is-head) at (found (y .more) (y .taken))
         where
-          found :
-              (at p : ℕ) (c : List ℕ) →
-              records-at kind s n m k e 0 (blank kind n m) ≡ (step.Next at p, c) →
-              length s ≤ at →
-              File-taken kind s c (record { rows = n; columns = m; count = k })
-          found at p c z l =
+          found : (more : ℕ) → Rest-taken kind s n m at c b more → File-taken kind s b (headed n m (k + more))
+          found more y =
               record {
                 second = a;
                 third = d;
                 start = e;
                 end = at;
-                last = p;
+                count = k;
+                more = more;
+                first = c;
                 rows-read = u;
                 columns-read = v;
                 count-read = t;
-                records-read = z;
-                ends = l;
+                first-read = record { last = p; records-read = z };
+                rest-read = y;
+                both = refl;
               }
 
   by-count : length lent ≡ 1024 → (n a m d : ℕ) → size-at s 0 ≡ Read n a → size-at s a ≡ Read m d → (r : Number) → number-at s d ≡ r → F
   by-count w n a m d u v (Refused e) t = refused (no-count kind s lent w n a u m d v e t)
-  by-count w n a m d u v (Read k e) t = whole w n a m d k e u v t (records-at kind s n m k e 0 (blank kind n m)) refl
+  by-count w n a m d u v (Read k e) t = listed w n a m d k e u v t (records-at (first-list kind) s n m k e 0 (blank kind n m)) refl
 
   by-columns : length lent ≡ 1024 → (n a : ℕ) → size-at s 0 ≡ Read n a → (r : Number) → size-at s a ≡ r → F
   by-columns w n a u (Refused e) v = refused (no-columns kind s lent w n a u e v)
@@ -217,19 +329,43 @@ module _ (kind : Kind) (s lent b : List ℕ) (head : Head) (q : read-file kind s
   pub file-taken : F
   file-taken = by-eq (length lent) 1024 (λ w. by-rows w (size-at s 0) refl) (λ w. refused (file-short kind s lent w))
 
--- N and M of such a file, and what holds of its buffer since it holds of a blank one and each record keeps it
+-- the other way round: such a file is accepted, over any lent buffer
+number-within : (s : List ℕ) (at v next : ℕ) → number-at s at ≡ Read v next → at < length s
+number-within s at v next q =
+    by-lt at (length s) (λ l. l) (λ l. absurd (let z : _≡_ {A = ℕ} 0 1 = cc (sym (ended s at l) ∙ q) in omega arith))
+
+taken-rest :
+    (kind : Kind) (s lent b : List ℕ) (n m k at p more : ℕ) (c : List ℕ) →
+    Rest-taken kind s n m at c b more →
+    rest-at kind s (headed n m k) lent (step.Next at p, c) ≡ (file.File (headed n m (k + more)), b)
+taken-rest kind s lent b n m k at p more c = by-kind kind
+  where
+    at-end :
+        {x : FileRead × List ℕ} →
+        Ended s at c b more →
+        x ≡ (file.File (headed n m k), c) →
+        x ≡ (file.File (headed n m (k + more)), b)
+    at-end t e = e ∙ rw (t .none, t .same, add-zero k) refl
+
+    by-kind : (kind : Kind) → Rest-taken kind s n m at c b more
+        → rest-at kind s (headed n m k) lent (step.Next at p, c) ≡ (file.File (headed n m (k + more)), b)
+    by-kind Map (inl t) = at-end t (second-none s (headed n m k) lent at p c (t .ends))
+    by-kind Map (inr t) =
+        second-some s (headed n m k) lent at p c (number-within s at more (t .start) (t .count-read)) more (t .start) (t .count-read)
+        (t .some)
+        ∙ whole-read s (headed n m (k + more)) lent (t .end) (t .list-read .last) b (t .list-read .records-read) (t .ends)
+    by-kind Plan t = at-end t (whole-read s (headed n m k) lent at p c refl (t .ends))
+
 module _ (kind : Kind) (s b : List ℕ) (head : Head) (f : File-taken kind s b head) where
+  pub taken-file : (lent : List ℕ) → length lent ≡ 1024 → read-file kind s lent ≡ (file.File head, b)
+  taken-file lent w =
+      head-read kind s lent w (head .rows) _ (f .rows-read) (head .columns) _ (f .columns-read) (f .count) _ (f .count-read)
+      ∙ ap (rest-at kind s (headed (head .rows) (head .columns) (f .count)) lent) (f .first-read .records-read)
+      ∙ taken-rest kind s lent b (head .rows) (head .columns) (f .count) (f .end) (f .first-read .last) (f .more) (f .first)
+      (f .rest-read)
+      ∙ rw (f .both) refl
+
+  -- N and M of such a file
   pub sizes-taken : (size (head .rows) && size (head .columns)) ≡ true
   sizes-taken =
       and-both _ _ (size-number s 0 (head .rows) _ (f .rows-read) .1) (size-number s _ (head .columns) _ (f .columns-read) .1)
-
-  pub file-keeps :
-      (P : ℕ → ℕ → ℕ → List ℕ → Type 0) →
-      ((k at before : ℕ) (c : List ℕ) (next p : ℕ) (d : List ℕ) → length c ≡ 1024 → P k at before c
-      → Taken kind s (head .rows) (head .columns) at before c next p d → P (suc k) next p d) →
-      P 0 (f .start) 0 (blank kind (head .rows) (head .columns)) →
-      (length b ≡ 1024) × P (0 + head .count) (f .end) (f .last) b
-  file-keeps P keeps first =
-      let z = sized (head .rows) (head .columns) sizes-taken in
-      records-keep kind s (head .rows) (head .columns) (z .rows-high, z .columns-high) P keeps (head .count) 0 (f .start) 0 (f .end) (f .last)
-      (blank kind (head .rows) (head .columns)) b (blank-length kind (head .rows) (head .columns)) first (f .records-read)

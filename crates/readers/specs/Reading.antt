@@ -1,6 +1,6 @@
--- Document 01, "Files" and "Numbers returned", and document 02, T-01: what a reader answers, and the lent buffer
--- afterwards. Assumes nothing.
-use Prim.Native.Nat.{ℕ, zero, suc}
+-- Document 01, "Files" and "Numbers returned", and document 02, T-01 and T-04: what a reader answers, and the lent
+-- buffer afterwards. Assumes nothing.
+use Prim.Native.Nat.{ℕ, zero, suc, _+_}
 use mathlib.Core.Bool.{cond, _&&_}
 use mathlib.Core.List.{List, [], _∷_}
 use lib.Dec.{ltb, leb, eqb}
@@ -10,9 +10,11 @@ use Rattle.array.specs.Tests.{refusal, Told, accepts, refuses-as}
 use Rattle.array.specs.Buffer.{long}
 use Rattle.array.specs.Map.{faulty}
 use Rattle.formats.specs.Number.{number-at, size-at, read-or}
-use Rattle.formats.specs.Records.{blank}
+use Rattle.formats.specs.Records.{blank, first-list}
 use Rattle.formats.specs.declared.Kind.{Kind}
 use Rattle.formats.specs.declared.Kind.the-variants.{Map, Plan}
+use Rattle.formats.specs.declared.Record.{Record}
+use Rattle.formats.specs.declared.Record.the-variants.{Fault, Dead, Path}
 use Rattle.readers.specs.declared.Head.{Head}
 use Rattle.readers.specs.declared.Step.{Step}
 use Rattle.readers.specs.declared.FileRead.{FileRead}
@@ -40,6 +42,14 @@ mark-fault n m at before x y next grid =
     (cond (faulty grid (position x y)) (no-record 11 at grid) (mark-in-order at before (position x y) 1 next grid))
     (no-record 10 at grid)
 
+-- T-04. A dead processor (x, y) is marked in a grid. 20: it is not inner. 11: the position is marked already, by either
+-- list. Then 19.
+abbrev pub mark-dead : ℕ → ℕ → ℕ → ℕ → ℕ → ℕ → ℕ → List ℕ → Step × List ℕ
+mark-dead n m at before x y next grid =
+    cond (inner-at n m x y)
+    (cond (faulty grid (position x y)) (no-record 11 at grid) (mark-in-order at before (position x y) 3 next grid))
+    (no-record 20 at grid)
+
 -- The path of direction d from (x, y) is marked among the directions. 10: it starts off the inner positions. 11: that
 -- position has one already. 13: d is none of the four directions. Then 19.
 abbrev pub mark-path : ℕ → ℕ → ℕ → ℕ → ℕ → ℕ → ℕ → ℕ → List ℕ → Step × List ℕ
@@ -50,25 +60,23 @@ mark-path n m at before x y d next directions =
     (no-record 11 at directions))
     (no-record 10 at directions)
 
+-- the row and the column at an offset, and what follows them, given the offset after them
+abbrev pub place-at : List ℕ → ℕ → List ℕ → (ℕ → ℕ → ℕ → Step × List ℕ) → Step × List ℕ
+place-at s at b f =
+    read-or (number-at s at)
+    (λ x a. read-or (number-at s a) (λ y next. f x y next) (λ r. (step.Refused r, b)))
+    (λ r. (step.Refused r, b))
+
 -- the record at an offset, judged once all its numbers are read; `before` is the position of the record before it, or 0
-unfoldable pub record-at : Kind → List ℕ → ℕ → ℕ → ℕ → ℕ → List ℕ → Step × List ℕ
-record-at Map s n m at before grid =
-    read-or (number-at s at)
-    (λ x a.
+unfoldable pub record-at : Record → List ℕ → ℕ → ℕ → ℕ → ℕ → List ℕ → Step × List ℕ
+record-at Fault s n m at before grid = place-at s at grid (λ x y next. mark-fault n m at before x y next grid)
+record-at Dead s n m at before grid = place-at s at grid (λ x y next. mark-dead n m at before x y next grid)
+record-at Path s n m at before directions =
+    place-at s at directions
+    (λ x y a.
     read-or (number-at s a)
-    (λ y next. mark-fault n m at before x y next grid)
-    (λ r. (step.Refused r, grid)))
-    (λ r. (step.Refused r, grid))
-record-at Plan s n m at before directions =
-    read-or (number-at s at)
-    (λ x a.
-    read-or (number-at s a)
-    (λ y b.
-    read-or (number-at s b)
     (λ d next. mark-path n m at before x y d next directions)
     (λ r. (step.Refused r, directions)))
-    (λ r. (step.Refused r, directions)))
-    (λ r. (step.Refused r, directions))
 
 -- a record's answer with the buffer being filled, and what follows it, given the next offset and the record's position
 abbrev pub and-then : Step × List ℕ → (ℕ → ℕ → List ℕ → Step × List ℕ) → Step × List ℕ
@@ -76,7 +84,7 @@ and-then (step.Next at p, b) f = f at p b
 and-then (step.Refused r, b) f = (step.Refused r, b)
 
 -- k records from an offset on, after a record of position `before`
-unfoldable pub records-at : Kind → List ℕ → ℕ → ℕ → ℕ → ℕ → ℕ → List ℕ → Step × List ℕ
+unfoldable pub records-at : Record → List ℕ → ℕ → ℕ → ℕ → ℕ → ℕ → List ℕ → Step × List ℕ
 records-at kind s n m zero at before b = (step.Next at before, b)
 records-at kind s n m (suc k) at before b =
     and-then (record-at kind s n m at before b) (λ next p c. records-at kind s n m k next p c)
@@ -86,11 +94,30 @@ abbrev pub whole-file : List ℕ → Head → List ℕ → Step × List ℕ → 
 whole-file s head lent (step.Next at p, b) = cond (ltb at (length s)) (Refused (refusal 12 at 0), lent) (File head, b)
 whole-file s head lent (step.Refused r, b) = (Refused r, lent)
 
--- what follows N, M and the count: the records, into a blank buffer, then the end of the file
+-- T-04. What follows the first list of a map: the file ends, or goes on with a second count and the places of the dead
+-- processors. A second count of 0 is 12 at its start. The count that is returned is of both lists.
+abbrev pub second-at : List ℕ → Head → List ℕ → Step × List ℕ → FileRead × List ℕ
+second-at s head lent (step.Next at p, grid) =
+    cond (ltb at (length s))
+    (read-or (number-at s at)
+    (λ k a.
+    cond (eqb k 0) (Refused (refusal 12 at 0), lent)
+    (whole-file s (record { rows = head .rows; columns = head .columns; count = head .count + k }) lent
+    (records-at Dead s (head .rows) (head .columns) k a 0 grid)))
+    (λ r. (Refused r, lent)))
+    (File head, grid)
+second-at s head lent (step.Refused r, b) = (Refused r, lent)
+
+-- what follows the first list of a file
+abbrev pub rest-at : Kind → List ℕ → Head → List ℕ → Step × List ℕ → FileRead × List ℕ
+rest-at Map s head lent x = second-at s head lent x
+rest-at Plan s head lent x = whole-file s head lent x
+
+-- what follows N, M and the count: the records, into a blank buffer, then the rest of the file
 abbrev pub body-at : Kind → List ℕ → Head → List ℕ → ℕ → FileRead × List ℕ
 body-at kind s head lent at =
-    whole-file s head lent
-    (records-at kind s (head .rows) (head .columns) (head .count) at 0 (blank kind (head .rows) (head .columns)))
+    rest-at kind s head lent
+    (records-at (first-list kind) s (head .rows) (head .columns) (head .count) at 0 (blank kind (head .rows) (head .columns)))
 
 -- what a reader answers, with the lent buffer afterwards: 2 first, then the file in its own order
 unfoldable pub read-file : Kind → List ℕ → List ℕ → FileRead × List ℕ

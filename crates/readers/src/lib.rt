@@ -2,6 +2,7 @@
 use array::Refusal;
 use formats::Kind;
 use formats::Number;
+use formats::Record;
 ghost use mathlib.Core.Path.{_≡_};
 ghost use Prim.Native.Nat.{ℕ, _≤_, _<_};
 ghost use Rattle.array.specs.Place.{position};
@@ -9,8 +10,9 @@ ghost use Rattle.array.specs.Tests.{refusal};
 ghost use lib.ListN.{length};
 ghost use Rattle.formats.specs.Number.{size-at};
 ghost use Rattle.formats.specs.Records.{blank};
-ghost use Rattle.readers.specs.Reading.{told, record-at, records-at, whole-file, body-at, read-file, read-map, read-plan};
-ghost use Rattle.readers.specs.Parts.{blank-mark, stands-at, value-at, is-value, marked};
+ghost use Rattle.readers.specs.Reading.{told, record-at, records-at, whole-file, second-at, rest-at, body-at, read-file, read-map, read-plan};
+ghost use Rattle.readers.specs.Parts.{blank-mark, stands-at, off-number, repeated, value-at, is-value, marked};
+ghost use Rattle.formats.specs.declared.Record.the-variants.{Dead};
 ghost use Rattle.readers.specs.declared.Step.the-variants.{Next, Refused};
 
 // What reading a record gives: the offset after it and its position, or the refusal.
@@ -19,7 +21,7 @@ pub enum Step {
     Refused(Refusal),
 }
 
-// What a reader returns of a file: N, M and the count.
+// What a reader returns of a file: N, M and the count, which of a map is that of both lists.
 pub struct Head {
     pub rows: usize,
     pub columns: usize,
@@ -83,33 +85,58 @@ fn blank_buffer(kind: Kind, n: usize, m: usize) -> [u8; 1024]
 }
 
 // Whether a record may stand at a row and a column.
-fn may_stand(kind: Kind, n: usize, m: usize, x: usize, y: usize) -> bool
+fn may_stand(kind: Record, n: usize, m: usize, x: usize, y: usize) -> bool
     requires { ⌜ (n ≤ 30) × (m ≤ 30) ⌝ }
     ensures { λ r. ⌜ r ≡ stands-at kind n m x y ⌝ }
 {
     match kind {
-        Kind::Map => array::is_processor_at(n, m, x, y),
-        Kind::Plan => array::is_inner_at(n, m, x, y),
+        Record::Fault => array::is_processor_at(n, m, x, y),
+        Record::Dead => array::is_inner_at(n, m, x, y),
+        Record::Path => array::is_inner_at(n, m, x, y),
+    }
+}
+
+// The number of a record that may not stand where it does.
+fn off_number(kind: Record) -> u8
+    ensures { λ r. ⌜ r ≡ off-number kind ⌝ }
+{
+    match kind {
+        Record::Fault => 10,
+        Record::Dead => 20,
+        Record::Path => 10,
+    }
+}
+
+// Whether a record repeats an element: a fault of either list, or a direction.
+fn is_repeated(kind: Record, v: u8) -> bool
+    ensures { λ r. ⌜ r ≡ repeated kind v ⌝ }
+{
+    match kind {
+        Record::Fault => array::is_faulty(v),
+        Record::Dead => array::is_faulty(v),
+        Record::Path => !(v == 0),
     }
 }
 
 // What a record writes, with the offset after the record, or its refusal.
-fn read_value(kind: Kind, s: &[u8], at: usize) -> Number
+fn read_value(kind: Record, s: &[u8], at: usize) -> Number
     ensures { λ r. ⌜ r ≡ value-at kind (now (s .entry)) at ⌝ }
 {
     match kind {
-        Kind::Map => Number::Read(1, at),
-        Kind::Plan => formats::read_number(s, at),
+        Record::Fault => Number::Read(1, at),
+        Record::Dead => Number::Read(3, at),
+        Record::Path => formats::read_number(s, at),
     }
 }
 
-// Whether a record may write a value: a fault's mark, which is 1, or one of the four directions.
-fn may_write(kind: Kind, v: u32) -> bool
+// Whether a record may write a value: the mark of its kind, or one of the four directions.
+fn may_write(kind: Record, v: u32) -> bool
     ensures { λ r. ⌜ r ≡ is-value kind v ⌝ }
 {
     match kind {
-        Kind::Map => v == 1,
-        Kind::Plan => (1 <= v) & (v <= 4),
+        Record::Fault => v == 1,
+        Record::Dead => v == 3,
+        Record::Path => (1 <= v) & (v <= 4),
     }
 }
 
@@ -127,7 +154,7 @@ fn no_record(number: u8, at: usize) -> Step
 // Judges the record of row x and column y that starts at an offset and ends before `next`, and writes its value v.
 // The record before it has position `before`.
 fn mark_one(
-    kind: Kind,
+    kind: Record,
     n: usize,
     m: usize,
     at: usize,
@@ -142,10 +169,10 @@ fn mark_one(
     ensures { λ r. ⌜ (r, now (b .exit)) ≡ marked kind n m at before x y v next (now (b .entry)) ⌝ }
 {
     if !may_stand(kind, n, m, x, y) {
-        return no_record(10, at);
+        return no_record(off_number(kind), at);
     }
     let p = 32 * x + y;
-    let repeated = formats::is_recorded(kind, b[p]);
+    let repeated = is_repeated(kind, b[p]);
     let lower = p < before;
     if repeated {
         return no_record(11, at);
@@ -162,7 +189,7 @@ fn mark_one(
 
 // The same; each kind has a call of its own, so that it is compiled by itself.
 fn mark(
-    kind: Kind,
+    kind: Record,
     n: usize,
     m: usize,
     at: usize,
@@ -177,14 +204,15 @@ fn mark(
     ensures { λ r. ⌜ (r, now (b .exit)) ≡ marked kind n m at before x y v next (now (b .entry)) ⌝ }
 {
     match kind {
-        Kind::Map => mark_one(Kind::Map, n, m, at, before, x, y, v, next, b),
-        Kind::Plan => mark_one(Kind::Plan, n, m, at, before, x, y, v, next, b),
+        Record::Fault => mark_one(Record::Fault, n, m, at, before, x, y, v, next, b),
+        Record::Dead => mark_one(Record::Dead, n, m, at, before, x, y, v, next, b),
+        Record::Path => mark_one(Record::Path, n, m, at, before, x, y, v, next, b),
     }
 }
 
 // Reads the record at an offset into a buffer, after a record of position `before`.
 fn read_record(
-    kind: Kind,
+    kind: Record,
     s: &[u8],
     n: usize,
     m: usize,
@@ -212,7 +240,7 @@ fn read_record(
 
 // Reads records from an offset on into a buffer. Before the first stands position 0: no position is lower.
 fn read_records(
-    kind: Kind,
+    kind: Record,
     s: &[u8],
     n: usize,
     m: usize,
@@ -264,14 +292,88 @@ fn fill(s: &[u8], head: Head, end: usize, b: [u8; 1024], lent: &mut [u8]) -> Fil
     FileRead::File(head)
 }
 
+// Reads the second list of a map, of `more` dead processors, into a grid that has its faults, and fills the lent buffer.
+fn read_dead(
+    s: &[u8],
+    head: Head,
+    more: usize,
+    start: usize,
+    faults: [u8; 1024],
+    lent: &mut [u8],
+) -> FileRead
+    requires { ⌜ (head .rows ≤ 30) × (head .columns ≤ 30) × (length (now lent) ≡ 1024) ⌝ }
+    ensures { λ r. ⌜ (r, now (lent .exit)) ≡ whole-file (now (s .entry)) head (now (lent .entry)) (records-at Dead (now (s .entry)) (head .rows) (head .columns) more start 0 faults) ⌝ }
+{
+    let mut grid = faults;
+    match read_records(
+        Record::Dead,
+        s,
+        head.rows,
+        head.columns,
+        more,
+        start,
+        &mut grid,
+    ) {
+        Step::Next(end, _) => fill(s, head, end, grid, lent),
+        Step::Refused(r) => FileRead::Refused(r),
+    }
+}
+
+// Reads what follows the first list of a map: nothing, or the second list.
+fn read_second(s: &[u8], head: Head, end: usize, grid: [u8; 1024], lent: &mut [u8]) -> FileRead
+    requires { ⌜ (head .rows ≤ 30) × (head .columns ≤ 30) × (head .count < 4294967296) × (length (now lent) ≡ 1024) ⌝ }
+    ensures { λ r. ⌜ ((p : ℕ) → (r, now (lent .exit)) ≡ second-at (now (s .entry)) head (now (lent .entry)) (Next end p, grid)) ⌝ }
+{
+    if s.len() <= end {
+        copy(lent, grid);
+        return FileRead::File(head);
+    }
+    let a = formats::read_number(s, end);
+    let Number::Read(more, start) = a else {
+        return FileRead::Refused(formats::refusal_of(a));
+    };
+    if more == 0 {
+        return FileRead::Refused(Refusal {
+            number: 12,
+            place: end,
+            second: 0,
+        });
+    }
+    let both = Head {
+        rows: head.rows,
+        columns: head.columns,
+        count: head.count + more as usize,
+    };
+    read_dead(s, both, more as usize, start, grid, lent)
+}
+
+// Reads what follows the first list of a file.
+fn read_rest(
+    kind: Kind,
+    s: &[u8],
+    head: Head,
+    end: usize,
+    b: [u8; 1024],
+    lent: &mut [u8],
+) -> FileRead
+    requires { ⌜ (head .rows ≤ 30) × (head .columns ≤ 30) × (head .count < 4294967296) × (length (now lent) ≡ 1024) ⌝ }
+    ensures { λ r. ⌜ ((p : ℕ) → (r, now (lent .exit)) ≡ rest-at kind (now (s .entry)) head (now (lent .entry)) (Next end p, b)) ⌝ }
+{
+    match kind {
+        Kind::Map => read_second(s, head, end, b, lent),
+        Kind::Plan => fill(s, head, end, b, lent),
+    }
+}
+
 // Reads what follows the head of a file.
 fn read_body(kind: Kind, s: &[u8], head: Head, start: usize, lent: &mut [u8]) -> FileRead
-    requires { ⌜ (head .rows ≤ 30) × (head .columns ≤ 30) × (length (now lent) ≡ 1024) ⌝ }
+    requires { ⌜ (head .rows ≤ 30) × (head .columns ≤ 30) × (head .count < 4294967296) × (length (now lent) ≡ 1024) ⌝ }
     ensures { λ r. ⌜ (r, now (lent .exit)) ≡ body-at kind (now (s .entry)) head (now (lent .entry)) start ⌝ }
 {
     let mut b = blank_buffer(kind, head.rows, head.columns);
-    match read_records(kind, s, head.rows, head.columns, head.count, start, &mut b) {
-        Step::Next(end, _) => fill(s, head, end, b, lent),
+    let first = formats::first_list(kind);
+    match read_records(first, s, head.rows, head.columns, head.count, start, &mut b) {
+        Step::Next(end, _) => read_rest(kind, s, head, end, b, lent),
         Step::Refused(r) => FileRead::Refused(r),
     }
 }

@@ -28,14 +28,14 @@ use Rattle.trials.specs.declared.Outcome.the-variants.{Repaired, Beyond, Spent}
 use Rattle.trials.proofs.Theorems.{trial-rule}
 use Rattle.track.specs.Placement.{placement}
 use Rattle.track.specs.Letters.{across-letters, down-letters}
-use Rattle.track.specs.Ports.{Wafer, Compass, _at_}
+use Rattle.track.specs.Ports.{Wafer, Compass, Processor, _at_}
 use Rattle.track.specs.Link.{Link}
 use Rattle.track.specs.Pieces.{Piece, pieces, Same}
 use Rattle.track.specs.Follower.{processor-of, out-of, followed, cell-test}
 use Rattle.track.specs.Theorems.{Routed, Cell, Neighbour, right, lower, holder}
-use Rattle.track.proofs.Theorem.{reaches, no-shared-piece}
-use Rattle.track.proofs.Seats.{sits, alone}
-use Rattle.track.proofs.Accepted.{inner-cell, neighbour-cell, followed-neighbour, switches-pass, placement-holds}
+use Rattle.track.proofs.Theorem.{reaches, no-shared-piece, avoids-dead}
+use Rattle.track.proofs.Seats.{sits, alone, neighbour-cell}
+use Rattle.track.proofs.Accepted.{inner-cell, followed-neighbour, switches-pass, placement-holds}
 use Rattle.repair.specs.Operations.{plan-repair, directions-after, place-cells, places-after, route-switches, across-after, down-after, link-tests, follow-link, answer-after, followed-after}
 use Rattle.repair.specs.Demand3.{Given, Good, answer, planned-directions, placing, places-held, routing, routed, following, paths, T-of, held, Reached, Neighbour-link, pieces-of, After-repaired, Demand3, Demand-3}
 use Rattle.repair.specs.declared.Answer.the-variants.{Planned}
@@ -182,7 +182,7 @@ module _ (g : Given) (good : Good g) where
     down-are = ap (λ (v : Verdict). written v (down-letters n m grid dirs) (g .down)) routed-right
 
     wafer-routed : Routed w
-    wafer-routed = record { map = good .map; plan = plan-here; across-set = across-are; down-set = down-are }
+    wafer-routed = record { map = good .map; plan = plan-here; across-set = across-are; down-set = down-are; broken-are = λ v. refl }
 
     -- the placement holds the seats
     held-is : (i j : ℕ) → Cell w i j → held g i j ≡ holder w i j
@@ -286,6 +286,7 @@ module _ (g : Given) (good : Good g) where
           alone = all-alone;
           reaches = all-reach;
           no-shared-piece = none-shared;
+          avoids-dead = λ u x y h. avoids-dead w wafer-routed (wafer-link u) (Processor x y) h;
         }
 
   after-repaired : (t : ℕ) → answer g ≡ Planned (Repaired t) → After-repaired g

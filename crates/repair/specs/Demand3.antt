@@ -1,4 +1,5 @@
--- Demand 3, as one statement about a whole run (document 00, demand 3; document 01, end of "Placement and routing").
+-- Demand 3, as one statement about a whole run (document 00, demand 3; document 01, end of "Placement and routing"; document 02,
+-- T-04: the openness of a plan is the narrower one, and a dead processor joins none of its ports).
 -- Assumes nothing.
 use Prim.Native.Nat.{ℕ, _≤_, _<_}
 use mathlib.Core.Path.{_≡_}
@@ -8,7 +9,7 @@ use mathlib.Core.List.{List, [], _∷_, List·Memᴰ}
 use lib.ListN.{getD}
 use Rattle.array.specs.Place.{position, processor}
 use Rattle.array.specs.Buffer.{all-long}
-use Rattle.array.specs.Map.{well-formed, healthy}
+use Rattle.array.specs.Map.{well-formed, healthy, dead}
 use Rattle.array.specs.declared.Verdict.{Verdict}
 use Rattle.array.specs.declared.Verdict.the-variants.{Accepted}
 use Rattle.plans.specs.Faults.{faults, directions-at}
@@ -18,11 +19,12 @@ use Rattle.trials.specs.Search.{T, planned}
 use Rattle.trials.specs.declared.Outcome.the-variants.{Repaired, Beyond, Spent}
 use Rattle.track.specs.Placement.{placement}
 use Rattle.track.specs.Letters.{across-letters, down-letters}
-use Rattle.track.specs.Ports.{Wafer, wafer, Compass, Port}
+use Rattle.track.specs.Ports.{Wafer, wafer, Compass, Processor, Port}
 use Rattle.track.specs.Link.{Trail, Link, Enters, switches}
 use Rattle.track.specs.Pieces.{Piece, pieces, Same}
 use Rattle.track.specs.Follower.{position-of, out-of, landing}
 use Rattle.track.specs.Theorems.{Cell, Neighbour}
+use Rattle.track.specs.Avoids.{Visits}
 use Rattle.track.specs.declared.Followed.{Followed}
 use Rattle.track.specs.declared.Followed.the-variants.{Entered}
 use Rattle.repair.specs.Operations.{plan-repair, directions-after, place-cells, places-after, route-switches, across-after, down-after, follow-link}
@@ -138,6 +140,8 @@ pub record After-repaired (g : Given) : Type 0 where
   -- no two such links of different name share a piece of track
   pub no-shared-piece : (u v : Neighbour-link g) (a b : Piece) → List·Memᴰ a (pieces-of g u) → List·Memᴰ b (pieces-of g v)
       → Same a b → (u .i ≡ v .i) × (u .j ≡ v .j) × (u .side ≡ v .side)
+  -- and none enters a dead processor
+  pub avoids-dead : (u : Neighbour-link g) (x y : ℕ) → dead (g .grid) (position x y) ≡ true → Visits (u .link) (Processor x y) → ⊥
 
 -- DEMAND 3, of one run
 pub record Demand3 (g : Given) : Type 0 where

@@ -41,6 +41,11 @@ pub fn is_inner(n: usize, m: usize, p: usize) -> bool {
     ((1 <= x) & (x <= n)) & ((1 <= y) & (y <= m))
 }
 
+// Whether a position is marked as a fault: 1, or 3 where it is dead.
+pub fn is_fault(grid: &[u8], p: usize) -> bool {
+    byte(grid, p) % 2 == 1
+}
+
 // What a position grows by in each direction, modulo 1,024.
 const STEPS: [u16; 5] = [0, 32, 992, 1, 1023];
 
@@ -51,4 +56,14 @@ fn step_of(d: u8) -> u16 {
 // The position next to p in direction d.
 pub fn ahead(p: usize, d: u8) -> usize {
     (p % 1024 + step_of(d) as usize) % 1024
+}
+
+// The position next to p against direction d.
+pub fn behind(p: usize, d: u8) -> usize {
+    (p % 1024 + 1024 - (step_of(d) % 1024) as usize) % 1024
+}
+
+// Whether a path may not start at p: it is dead, and an inner processor is behind it, whose link would run through it.
+pub fn is_stuck(n: usize, m: usize, grid: &[u8], p: usize, d: u8) -> bool {
+    (byte(grid, p) == 3) & is_inner(n, m, behind(p, d))
 }

@@ -39,18 +39,23 @@ fn do_share(n: usize, m: usize, p: usize, d: u8, q: usize, e: u8) -> bool {
 }
 
 // Whether a processor after the start is faulty.
-pub fn is_blocked(n: usize, m: usize, grid: &[u8], p: usize, d: u8) -> bool {
+fn is_met(n: usize, m: usize, grid: &[u8], p: usize, d: u8) -> bool {
     let mut q = p;
     for _ in 0..32usize {
         if !buffers::is_inner(n, m, q) {
             return false;
         }
         q = buffers::ahead(q, d);
-        if buffers::byte(grid, q) == 1 {
+        if buffers::is_fault(grid, q) {
             return true;
         }
     }
     false
+}
+
+// Whether a path is not open.
+pub fn is_blocked(n: usize, m: usize, grid: &[u8], p: usize, d: u8) -> bool {
+    buffers::is_stuck(n, m, grid, p, d) | is_met(n, m, grid, p, d)
 }
 
 fn are_beside(a: usize, b: usize) -> bool {
@@ -78,8 +83,8 @@ fn report(number: u8, place: usize, second: usize) -> Finding {
     }
 }
 
-fn is_misplaced(n: usize, m: usize, mark: u8, d: u8, p: usize) -> bool {
-    if buffers::is_inner(n, m, p) & (mark == 1) {
+fn is_misplaced(n: usize, m: usize, grid: &[u8], d: u8, p: usize) -> bool {
+    if buffers::is_inner(n, m, p) & buffers::is_fault(grid, p) {
         (d < 1) | (4 < d)
     } else {
         d != 0
@@ -89,8 +94,7 @@ fn is_misplaced(n: usize, m: usize, mark: u8, d: u8, p: usize) -> bool {
 // Number 4.
 fn find_misplaced(n: usize, m: usize, grid: &[u8], directions: &[u8]) -> Finding {
     for p in 0..1024 {
-        let mark = buffers::byte(grid, p);
-        if is_misplaced(n, m, mark, buffers::byte(directions, p), p) {
+        if is_misplaced(n, m, grid, buffers::byte(directions, p), p) {
             return report(4, p, 0);
         }
     }

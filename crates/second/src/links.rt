@@ -195,11 +195,26 @@ pub fn shared(marks: &[u32]) -> u32 {
     buffers::mask(marks, SHARED)
 }
 
+// What a fault at p joins to a side: nothing where it is dead.
+fn processor_join(grid: &[u8], directions: &[u8], p: usize, side: u8) -> u8 {
+    if buffers::byte(grid, p) == 3 {
+        return 0;
+    }
+    fault_join(buffers::byte(directions, p), side)
+}
+
 // The letter of the side that a node joins to a side, or another byte where there is none.
-fn join_at(directions: &[u8], across: &[u8], down: &[u8], node: usize, side: u8) -> u8 {
+fn join_at(
+    grid: &[u8],
+    directions: &[u8],
+    across: &[u8],
+    down: &[u8],
+    node: usize,
+    side: u8,
+) -> u8 {
     let p = position_of(node);
     match kind_of(node) {
-        0 => fault_join(buffers::byte(directions, p), side),
+        0 => processor_join(grid, directions, p, side),
         1 => switch_join(true, buffers::byte(across, p), side),
         _ => switch_join(false, buffers::byte(down, p), side),
     }
@@ -249,7 +264,7 @@ fn advance(
     if (kind_of(node) == 0) & (buffers::byte(directions, position_of(node)) == 0) {
         return entered(grid, w, node, side);
     }
-    let out = side_of(join_at(directions, across, down, node, side));
+    let out = side_of(join_at(grid, directions, across, down, node, side));
     if 3 < out {
         return halted(w, node, side, 2);
     }

@@ -57,8 +57,13 @@ fn opposite(d: u8) -> usize {
     }
 }
 
-// Whether a fault lies ahead of the start.
+// Whether a path may not start at p, or a fault lies ahead of it. Masks 32d + x of the rows have the positions in row x at which no
+// path in direction d may start.
 fn is_closed(rows: &[u32], columns: &[u32], p: usize, d: u8) -> bool {
+    let stuck = buffers::mask(rows, 32 * ((d % 8) as usize) + (p / 32) % 32);
+    if stuck & bit(p % 32) != 0 {
+        return true;
+    }
     let faults = if is_vertical(d) {
         buffers::mask(columns, p % 32)
     } else {
@@ -210,7 +215,7 @@ fn add_bit(masks: &mut [u32], i: usize, j: usize) {
 
 // Sets the bits of p in both masks where it is faulty.
 fn add_fault(grid: &[u8], p: usize, rows: &mut [u32], columns: &mut [u32]) {
-    if buffers::byte(grid, p) == 1 {
+    if buffers::is_fault(grid, p) {
         add_bit(rows, p / 32, p % 32);
         add_bit(columns, p % 32, p / 32);
     }
@@ -223,6 +228,23 @@ fn fill_masks(grid: &[u8], rows: &mut [u32], columns: &mut [u32]) {
     }
 }
 
+// Sets the bit of p among the starts of direction d where no path may start.
+fn add_stuck(n: usize, m: usize, grid: &[u8], p: usize, d: u8, rows: &mut [u32]) {
+    if buffers::is_stuck(n, m, grid, p, d) {
+        add_bit(rows, 32 * ((d % 8) as usize) + (p / 32) % 32, p % 32);
+    }
+}
+
+// Fills the masks of the starts of each direction.
+fn fill_starts(n: usize, m: usize, grid: &[u8], rows: &mut [u32]) {
+    for p in 0..1024 {
+        add_stuck(n, m, grid, p, 1, rows);
+        add_stuck(n, m, grid, p, 2, rows);
+        add_stuck(n, m, grid, p, 3, rows);
+        add_stuck(n, m, grid, p, 4, rows);
+    }
+}
+
 // Adds p to the list where it is an inner fault, and gives the number listed.
 fn list_fault(
     n: usize,
@@ -232,7 +254,7 @@ fn list_fault(
     starts: &mut [u16],
     count: usize,
 ) -> usize {
-    if buffers::is_inner(n, m, p) & (buffers::byte(grid, p) == 1) {
+    if buffers::is_inner(n, m, p) & buffers::is_fault(grid, p) {
         buffers::put_place(starts, count, p);
         return std::num::wrapping_add_usize(count, 1);
     }
@@ -290,10 +312,11 @@ fn search_all(
 
 // The planner on a well-formed map.
 pub fn plan(n: usize, m: usize, grid: &[u8], directions: &mut [u8], limit: u32) -> Planned {
-    let mut rows = [0u32; 32];
+    let mut rows = [0u32; 160];
     let mut columns = [0u32; 32];
     let mut starts = [0u16; 1024];
     fill_masks(grid, &mut rows, &mut columns);
+    fill_starts(n, m, grid, &mut rows);
     let count = list_faults(n, m, grid, &mut starts);
     wipe(directions);
     let s = search_all(count, &starts, &rows, &columns, directions, limit);

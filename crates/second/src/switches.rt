@@ -35,14 +35,14 @@ fn state_of(forward: bool, backward: bool, fault: bool) -> u8 {
 fn vertical(grid: &[u8], directions: &[u8], x: usize, y: usize) -> u8 {
     let south = is_column_start(directions, y, 0, x % 32 + 1, 1);
     let north = is_column_start(directions, y, x % 32, 32, 2);
-    let fault = buffers::byte(grid, 32 * (x % 32) + y % 32) == 1;
+    let fault = buffers::is_fault(grid, 32 * (x % 32) + y % 32);
     state_of(south, north, fault)
 }
 
 fn horizontal(grid: &[u8], directions: &[u8], x: usize, y: usize) -> u8 {
     let east = is_row_start(directions, x, 0, y % 32 + 1, 3);
     let west = is_row_start(directions, x, y % 32, 32, 4);
-    let fault = buffers::byte(grid, 32 * (x % 32) + y % 32) == 1;
+    let fault = buffers::is_fault(grid, 32 * (x % 32) + y % 32);
     state_of(east, west, fault)
 }
 

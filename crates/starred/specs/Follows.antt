@@ -16,18 +16,14 @@ use Rattle.track.specs.Pieces.{stretch, join, pieces}
 use Rattle.track.specs.Follower.{refused, followed, out-of, seat-of, cell-test, switches-test}
 use Rattle.track.specs.declared.Followed.the-variants.{Entered}
 use Rattle.starred.specs.Grids.{grid-of, directions-of, shown}
+use Rattle.track.specs.Ports as ports
 
 -- a wafer with the switches that document 01 defines for these directions
 abbrev pub wafer : ℕ → List ℕ → List Fault → Wafer
 wafer size faulty fs =
-    record {
-      rows = size;
-      columns = size;
-      grid = grid-of size size faulty;
-      directions = directions-of fs;
-      across = across-letters size size (grid-of size size faulty) (directions-of fs);
-      down = down-letters size size (grid-of size size faulty) (directions-of fs);
-    }
+    ports.wafer size size (grid-of size size faulty) (directions-of fs)
+    (across-letters size size (grid-of size size faulty) (directions-of fs))
+    (down-letters size size (grid-of size size faulty) (directions-of fs))
 
 -- the bench program's example
 abbrev pub bench : Wafer
@@ -46,26 +42,10 @@ all-b = across-letters 2 2 (grid-of 2 2 []) zeros
 
 -- a wafer with other across letters
 abbrev pub with-across : Wafer → List ℕ → Wafer
-with-across w across =
-    record {
-      rows = w .rows;
-      columns = w .columns;
-      grid = w .grid;
-      directions = w .directions;
-      across = across;
-      down = w .down;
-    }
+with-across w across = ports.wafer (w .rows) (w .columns) (w .grid) (w .directions) across (w .down)
 
 abbrev pub with-down : Wafer → List ℕ → Wafer
-with-down w down =
-    record {
-      rows = w .rows;
-      columns = w .columns;
-      grid = w .grid;
-      directions = w .directions;
-      across = w .across;
-      down = down;
-    }
+with-down w down = ports.wafer (w .rows) (w .columns) (w .grid) (w .directions) (w .across) down
 
 -- switch letters where paths run apart, by position, and the cells beside them
 pub record Letter-examples : Type 0 where

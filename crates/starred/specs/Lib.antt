@@ -3,3 +3,4 @@ pub mod Stars
 pub mod Bench
 pub mod Follows
 pub mod Refusals
+pub mod Dead

@@ -36,10 +36,12 @@ pub record File-refusals : Type 0 where
   -- M is 31, at its offset; a cut record whose row is bad
   pub size-31 : Map-refused (2 ∷ 31 ∷ []) 1 1
   pub cut-record : Map-refused (2 ∷ 2 ∷ 1 ∷ 9 ∷ []) 8 4
-  -- row 0 and column 33 are not (1, 1); a repeat; a byte after the last record
+  -- row 0 and column 33 are not (1, 1); a repeat; bytes after the last record of each list; a second list that ends early
   pub no-alias : Map-refused (2 ∷ 2 ∷ 1 ∷ 0 ∷ 33 ∷ []) 10 3
   pub repeated : Map-refused (2 ∷ 2 ∷ 2 ∷ 1 ∷ 1 ∷ 1 ∷ 1 ∷ []) 11 5
-  pub byte-after : Map-refused (2 ∷ 2 ∷ 0 ∷ 7 ∷ []) 12 3
+  pub byte-after : Map-refused (2 ∷ 2 ∷ 0 ∷ 0 ∷ []) 12 3
+  pub byte-after-dead : Map-refused (2 ∷ 2 ∷ 0 ∷ 1 ∷ 1 ∷ 1 ∷ 7 ∷ []) 12 6
+  pub second-cut : Map-refused (2 ∷ 2 ∷ 0 ∷ 7 ∷ []) 8 4
   -- 19: (1, 1) after (2, 1), of a map and of a plan; a third record that is lower than the second, though not than the first
   pub lower : Map-refused (2 ∷ 2 ∷ 2 ∷ 2 ∷ 1 ∷ 1 ∷ 1 ∷ []) 19 5
   pub lower-path : Plan-refused (2 ∷ 2 ∷ 2 ∷ 2 ∷ 1 ∷ 1 ∷ 1 ∷ 1 ∷ 1 ∷ []) 19 6

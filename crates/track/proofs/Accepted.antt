@@ -20,14 +20,14 @@ use Rattle.track.specs.Letters.{letter, across-exists, down-exists, acro
 use Rattle.track.specs.Ports.{Wafer, Compass, _at_}
 use Rattle.track.specs.Follower.{processor-of, switch-test, landing, followed}
 use Rattle.track.specs.declared.Followed.the-variants.{Entered}
-use Rattle.track.specs.Theorems.{Routed, Cell, holder, Neighbour, right, lower, Reaches, Follower-arrives, Placement-holds, Switches-pass}
+use Rattle.track.specs.Theorems.{Routed, Cell, holder, Neighbour, Reaches, Follower-arrives, Placement-holds, Switches-pass}
 use Rattle.track.proofs.View.{tr}
 use Rattle.track.proofs.Walks.{State, state, state-number}
 use Rattle.track.proofs.Cross.{all, pairs-at}
 use Rattle.track.proofs.Paths.{true-if}
 use Rattle.track.proofs.OnPath.{heading}
 use Rattle.track.proofs.Held.{fault-list, through-at, vertical-is, horizontal-is, formed-of}
-use Rattle.track.proofs.Seats.{sits}
+use Rattle.track.proofs.Seats.{sits, neighbour-cell}
 use Rattle.track.proofs.Theorem.{reaches}
 use Rattle.track.proofs.Follows.{follower-own}
 use Rattle.track.specs.Letters as letters
@@ -86,13 +86,6 @@ switches-pass w a d =
     ap (λ (z : List ℕ). getD z p 0) d ∙ tabulate-at (down-at (w .rows) (w .columns) (w .grid) (fault-list w)) 1024 p 0 (omega arith) in
     false-accepted 16 p 0 (ap not (and-both _ _ (ap (switch-byte (across-exists (w .rows) (w .columns) (row p) (column p))) x ∙ across-fits w p)
     (ap (switch-byte (down-exists (w .rows) (w .columns) (row p) (column p))) y ∙ down-fits w p))))
-
--- a neighbour is a cell
-pub neighbour-cell : (w : Wafer) (i j side k l : ℕ) (port : Compass) → Neighbour w i j side k l port → Cell w k l
-neighbour-cell w i j side k l port (right c h) =
-    record { row-low = c .row-low; row-high = c .row-high; column-low = omega arith; column-high = omega arith }
-neighbour-cell w i j side k l port (lower c h) =
-    record { row-low = omega arith; row-high = omega arith; column-low = c .column-low; column-high = c .column-high }
 
 -- the follower tells of a link that reaches a neighbour
 pub followed-neighbour : (w : Wafer) → Routed w → (i j side k l : ℕ) (port : Compass) → Neighbour w i j side k l port

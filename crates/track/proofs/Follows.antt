@@ -15,7 +15,7 @@ use Rattle.array.specs.Map.{faulty}
 use Rattle.array.specs.Tests.{refusal}
 use Rattle.array.specs.declared.Refusal.{Refusal}
 use Rattle.array.proofs.Bools.{by-bool}
-use Rattle.track.specs.Ports.{Wafer, Compass, W, E, N, S, Node, Processor, Across, Down, Port, _at_, neighbour, stands, if-stands, stretch-from, joins-nothing, joined}
+use Rattle.track.specs.Ports.{Wafer, Compass, W, E, N, S, Node, Processor, Across, Down, Port, _at_, neighbour, stands, if-stands, stretch-from, ends-link, joined}
 use Rattle.track.specs.Link.{Trail, passes, enters, unjoined-at, no-stretch, unfinished, Inside, ends, on, stops, joined-to, inside, Link, last, next, run, is-switch, switches, Enters}
 use Rattle.track.specs.Follower.{port-number, position-of, out-of, seat-of, refused, judged, followed, Enough, Link-of, Follower-own}
 use Rattle.track.specs.declared.Landing.{Landing}
@@ -259,34 +259,34 @@ leads-to-switch w o i h e = beside-processor (o .node) (o .side) i h (stands-som
 -- a join stays in its node
 same-node : (w : Wafer) (i q : Port) → inside w i ≡ on q → q .node ≡ i .node
 unfolding inside
-same-node w i q e = by-bool (joins-nothing w (i .node)) ended joining
+same-node w i q e = by-bool (ends-link w (i .node)) ended joining
   where
-    ended : joins-nothing w (i .node) ≡ true → q .node ≡ i .node
+    ended : ends-link w (i .node) ≡ true → q .node ≡ i .node
     ended h = let z : ends ≡ on q = rw (h, inside) at e in absurd (true≢false (cc))
 
     at-port : (a : Option Compass) → joined-to (i .node) a ≡ on q → q .node ≡ i .node
     at-port none z = absurd (true≢false (cc))
     at-port (some s) z = let u : i .node at s ≡ q = cc in ap (λ (p : Port). p .node) (sym u)
 
-    joining : joins-nothing w (i .node) ≡ false → q .node ≡ i .node
+    joining : ends-link w (i .node) ≡ false → q .node ≡ i .node
     joining h = at-port (joined w (i .node) (i .side)) (rw (h, inside) at e)
 
 -- a switch does not end a link
 switch-joins : (w : Wafer) (i : Port) → is-switch (i .node) ≡ true → inside w i ≡ ends → ⊥
-unfolding inside joins-nothing
+unfolding inside ends-link
 switch-joins w i s h = at-node (i .node) refl
   where
     joining : (a : Option Compass) → joined-to (i .node) a ≡ ends → ⊥
     joining none z = true≢false (cc)
     joining (some q) z = true≢false (cc)
 
-    in-switch : joins-nothing w (i .node) ≡ false → ⊥
+    in-switch : ends-link w (i .node) ≡ false → ⊥
     in-switch e = joining (joined w (i .node) (i .side)) (rw (e, inside) at h)
 
     at-node : (v : Node) → i .node ≡ v → ⊥
     at-node (Processor x y) e = true≢false (sym s ∙ ap is-switch e)
-    at-node (Across x y) e = in-switch (ap (joins-nothing w) e)
-    at-node (Down x y) e = in-switch (ap (joins-nothing w) e)
+    at-node (Across x y) e = in-switch (ap (ends-link w) e)
+    at-node (Down x y) e = in-switch (ap (ends-link w) e)
 
 -- f steps from the port o are enough to judge a run that may pass r more switches
 record Late (o : Port) (r f : ℕ) : Type 0 where

@@ -1,4 +1,5 @@
--- The switches and processors of a routed wafer hold what a walk of its view meets, along rows and, with the view transposed, along columns.
+-- The switches and processors of a routed wafer hold what a walk of its view meets, as if nothing were broken: along rows
+-- and, with the view transposed, along columns.
 -- Assumes nothing.
 use mathlib.Core.Path.{_≡_, refl, sym, ap, _∙_}
 use mathlib.Core.Bool.{Bool, true, false, false≢true, true≢false}
@@ -22,8 +23,9 @@ use Rattle.plans.specs.declared.Fault.{Fault}
 use Rattle.plans.proofs.ByPosition.{buffer-plan}
 use Rattle.track.specs.Placement.{through}
 use Rattle.track.specs.Letters.{letter, across-exists, down-exists, across-at, down-at, across-letters, down-letters}
-use Rattle.track.specs.Ports.{Wafer, Compass, W, E, N, S, Processor, Across, Down, Port, _at_, stands, N–S, W–E, unjoined as unjoined-all, across-joins, down-joins, fault-joins, joins-nothing, joined}
+use Rattle.track.specs.Ports.{Wafer, Compass, W, E, N, S, Processor, Across, Down, Port, _at_, stands, N–S, W–E, unjoined as unjoined-all, across-joins, down-joins, fault-joins, ends-link, set-to, joined}
 use Rattle.track.specs.Theorems.{Routed}
+use Rattle.track.proofs.OneLink.{sound}
 use Rattle.track.proofs.View.{Dir, still, south, north, east, west, tr, moving, View, transposed, Planned}
 use Rattle.track.proofs.Walks.{State, state, state-number, code, as-joined, vertical, Letter, sa, sb, sc, sd, no-switch, table, where-both, across, Joined, to, unjoined, missing, join, ends, runs, inside, inside-of}
 use Rattle.track.proofs.Cross.{all, pairs-at}
@@ -117,7 +119,7 @@ fault-joins-is d s =
     by-number (λ z. fault-joins z s ≡ joins-of (heading z) s) d refl refl refl refl (λ a b c e. rw (a, b, c, e))
 
 -- a fault that a walk runs through is on a path along the walk's axis
-abbrev level : Dir → Bool
+abbrev pub level : Dir → Bool
 level still = false
 level south = false
 level north = false
@@ -169,11 +171,11 @@ abbrev pub through-at : Wafer → ℕ → ℕ
 through-at w p = through (w .rows) (w .columns) (fault-list w) p
 
 -- what is inside at a port, from what its node joins
-inside-ends : (w : Wafer) (i : Port) → joins-nothing w (i .node) ≡ true → link.inside w i ≡ link.ends
+inside-ends : (w : Wafer) (i : Port) → ends-link w (i .node) ≡ true → link.inside w i ≡ link.ends
 unfolding link.inside
 inside-ends w i e = rw (e, link.inside)
 
-inside-on : (w : Wafer) (i : Port) (q : Compass) → joins-nothing w (i .node) ≡ false → joined w (i .node) (i .side) ≡ some q
+inside-on : (w : Wafer) (i : Port) (q : Compass) → ends-link w (i .node) ≡ false → joined w (i .node) (i .side) ≡ some q
     → link.inside w i ≡ link.on (i .node at q)
 unfolding link.inside
 inside-on w i q e f = rw (e, f, link.inside)
@@ -228,35 +230,35 @@ module _ (w : Wafer) (r : Routed w) where
       (letter-is (vertical (transposed (view-of w)) x y) (vertical (transposed (view-of w)) x (suc y)))
 
   -- a healthy processor ends a link
-  healthy-ends : (x y : ℕ) (p : Compass) → faulty (w .grid) (position x y) ≡ false → link.inside w (Processor x y at p) ≡ link.ends
-  unfolding joins-nothing
+  healthy-ends : (x y : ℕ) (p : Compass) → faulty (w .grid) (position x y) ≡ false → link.inside (sound w) (Processor x y at p) ≡ link.ends
+  unfolding ends-link
   healthy-ends x y p h =
-      inside-ends w (Processor x y at p) (rw (h, and-none (inner (w .rows) (w .columns) (position x y))))
+      inside-ends (sound w) (Processor x y at p) (rw (h, and-none (inner (w .rows) (w .columns) (position x y))))
 
   -- a fault on a path joins the ports that its own direction says
   fault-inside : (x y : ℕ) (d : Dir) (s q : Compass) → T (moving d) → faulty (w .grid) (position x y) ≡ true → view-of w .path x y ≡ d
-      → joins-of d s ≡ some q → link.inside w (Processor x y at s) ≡ link.on (Processor x y at q)
-  unfolding joins-nothing joined
+      → joins-of d s ≡ some q → link.inside (sound w) (Processor x y at s) ≡ link.on (Processor x y at q)
+  unfolding ends-link joined set-to
   fault-inside x y d s q m h e g =
       let o = own-direction (view-of w) planned-of d x y m (rw h tt) e in
       let a = true-if (inner-at (w .rows) (w .columns) x y) (planned-of .only x y (λ z. moving-not-still d m (sym o ∙ z)) .0) in
       let b = inner-at-holds (w .rows) (w .columns) x y a in
       let i = position-read x y (omega (arith, b .column-high, formed-of .sizes .columns-high)) in
       let k : heading (getD (w .directions) (position x y) 0) ≡ d = rw (a, h) at o in
-      inside-on w (Processor x y at s) q (rw (i .0, i .1, a, h))
+      inside-on (sound w) (Processor x y at s) q (rw (i .0, i .1, a, h))
       (rw (i .0, i .1, a, h, fault-joins-is (getD (w .directions) (position x y) 0) s, k) g)
 
   across-inside : (x y : ℕ) (p q : Compass) → across-exists (w .rows) (w .columns) x y ≡ true → join (across (view-of w) x y) p ≡ to q
-      → link.inside w (Across x y at p) ≡ link.on (Across x y at q)
-  unfolding joins-nothing joined
+      → link.inside (sound w) (Across x y at p) ≡ link.on (Across x y at q)
+  unfolding ends-link joined set-to
   across-inside x y p q h e =
-      inside-on w (Across x y at p) q refl (rw (across-held x y h, across-joins-is (across (view-of w) x y) p, e))
+      inside-on (sound w) (Across x y at p) q refl (rw (across-held x y h, across-joins-is (across (view-of w) x y) p, e))
 
   down-inside : (x y : ℕ) (p q : Compass) → down-exists (w .rows) (w .columns) y x ≡ true
-      → join (across (transposed (view-of w)) x y) p ≡ to q → link.inside w (Down y x at turned p) ≡ link.on (Down y x at turned q)
-  unfolding joins-nothing joined
+      → join (across (transposed (view-of w)) x y) p ≡ to q → link.inside (sound w) (Down y x at turned p) ≡ link.on (Down y x at turned q)
+  unfolding ends-link joined set-to
   down-inside x y p q h e =
-      inside-on w (Down y x at turned p) (turned q) refl
+      inside-on (sound w) (Down y x at turned p) (turned q) refl
       (rw (down-held x y h, down-joins-is (across (transposed (view-of w)) x y) p, e))
 
   across-there : (x y : ℕ) (p : Compass) → there (join (across (view-of w) x y) p) ≡ true → across-exists (w .rows) (w .columns) x y ≡ true
@@ -267,7 +269,7 @@ module _ (w : Wafer) (r : Routed w) where
       sym (down-turns (w .rows) (w .columns) x y)
       ∙ exists-where _ (table (vertical (transposed (view-of w)) x y) (vertical (transposed (view-of w)) x (suc y))) p t
 
-  pub along-rows : Alike w Across Processor unturned (across (view-of w)) (inside (view-of w))
+  pub along-rows : Alike (sound w) Across Processor unturned (across (view-of w)) (inside (view-of w))
   unfolding stands
   along-rows =
       record {
@@ -281,13 +283,13 @@ module _ (w : Wafer) (r : Routed w) where
       }
     where
       run : (x y : ℕ) (s q : Compass) → inside (view-of w) x y ≡ runs → ((d : Dir) → T (level d) → joins-of d s ≡ some q)
-          → link.inside w (Processor x y at s) ≡ link.on (Processor x y at q)
+          → link.inside (sound w) (Processor x y at s) ≡ link.on (Processor x y at q)
       run x y s q e f =
           let d = view-of w .path x y in
           let a = runs-when d (faulty (w .grid) (position x y)) e in
           fault-inside x y d s q (level-joins d (a .1) .0) (a .0) refl (f d (a .1))
 
-  pub along-columns : Alike w down-turned processor-turned turned (across (transposed (view-of w))) (inside (transposed (view-of w)))
+  pub along-columns : Alike (sound w) down-turned processor-turned turned (across (transposed (view-of w))) (inside (transposed (view-of w)))
   unfolding stands
   along-columns =
       record {
@@ -301,7 +303,7 @@ module _ (w : Wafer) (r : Routed w) where
       }
     where
       run : (x y : ℕ) (s q : Compass) → inside (transposed (view-of w)) x y ≡ runs → ((d : Dir) → T (level (tr d)) → joins-of d s ≡ some q)
-          → link.inside w (Processor y x at s) ≡ link.on (Processor y x at q)
+          → link.inside (sound w) (Processor y x at s) ≡ link.on (Processor y x at q)
       run x y s q e f =
           let d = view-of w .path y x in
           let a = runs-when (tr d) (faulty (w .grid) (position y x)) e in

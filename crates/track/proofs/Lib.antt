@@ -13,8 +13,11 @@ pub mod Through
 pub mod Seen
 pub mod Trails
 pub mod Held
+pub mod Rims
 pub mod Seats
 pub mod OneLink
+pub mod Sound
+pub mod Avoids
 pub mod Theorem
 pub mod XEntries
 pub mod Follows

@@ -1,14 +1,15 @@
--- The east link of [i, j] enters the processor of [i, j+1] by its W port over at most three switches, and each port
--- that it goes by is its own. From the rules between neighbours.
+-- The east link of [i, j] enters the processor of [i, j+1] by its W port over at most three switches, each port that it
+-- goes by is its own, and the faults that it passes are known. From the rules between neighbours.
 -- Assumes nothing.
 use Prim.Native.Nat.{ℕ, suc, _≤_}
 use native.Mathlib.Omega.{arith}
-use mathlib.Core.Path.{_≡_, refl, _∙_, ap, subst}
+use mathlib.Core.Path.{_≡_, refl, sym, _∙_, ap, subst}
 use mathlib.Core.Bool.{Bool}
+use mathlib.Core.List.{List, [], _∷_}
 use lib.Dec.{T, lit≤}
 use Rattle.track.proofs.View.{Dir, still, south, north, east, west, View}
 use Rattle.track.specs.Ports.{W, E}
-use Rattle.track.proofs.Walks.{State, v0, v1, v2, v3, v4, sb, Letter, vertical, horizontal, across, Inside, ends, runs, inside, placed, Run, switch, fault, enters, last, walk, switches, link, Place}
+use Rattle.track.proofs.Walks.{State, v0, v1, v2, v3, v4, sb, Letter, vertical, horizontal, across, Inside, ends, runs, inside, placed, Run, switch, fault, enters, unjoined-at, lost, too-long, last, walk, switches, link, Place}
 use Rattle.track.proofs.Cross.{above, is, Rel, top, mid, bot, rel, row, leads}
 use Rattle.track.proofs.Runs.{is-eq, run, with-run, runs-on}
 use Rattle.track.proofs.Own.{of-processor, ports, link-ports, name, stretch, stretch-of, owner, owner-at, owned-at, Owned, owns}
@@ -17,10 +18,40 @@ use Rattle.track.proofs.Rules.{Rules, upright, Means, means, under-1, u
 abbrev pub enters-at : Place → Run
 enters-at c = enters (c .row) (c .col) W
 
+-- the faults that a run passes
+abbrev pub passed : Run → List Place
+passed (switch x y p q r) = passed r
+passed (fault x y p q r) = name x y ∷ passed r
+passed (enters x y p) = []
+passed (unjoined-at x y) = []
+passed lost = []
+passed (too-long x y) = []
+
+-- c where a west path starts there, before others
+abbrev pub west-start : State → Place → List Place → List Place
+west-start v0 c others = others
+west-start v1 c others = others
+west-start v2 c others = others
+west-start v3 c others = c ∷ others
+west-start v4 c others = others
+
+-- c where an east path starts there
+abbrev pub east-start : State → Place → List Place
+east-start v0 c = []
+east-start v1 c = []
+east-start v2 c = c ∷ []
+east-start v3 c = []
+east-start v4 c = []
+
+-- the faults at (i, j) and (i, j+1) whose paths start there and run away from each other
+abbrev pub starts : View → ℕ → ℕ → List Place
+starts w i j = west-start (horizontal w i j) (name i j) (east-start (horizontal w i (suc j)) (name i (suc j)))
+
 pub record Right (w : View) (i j : ℕ) : Type 0 where
   pub arrives : last (link w i j) ≡ enters-at (placed w i (suc j))
   pub short : switches (link w i j) ≤ 3
   pub owned : Owned w i j (link-ports w i j)
+  pub passes : passed (link w i j) ≡ starts w i j
 
 -- the same of a run that is known to be the link
 record Fine (w : View) (i j : ℕ) (from to : Place) (r : Run) : Type 0 where
@@ -29,6 +60,7 @@ record Fine (w : View) (i j : ℕ) (from to : Place) (r : Run) : Type 0 where
   short : switches r ≤ 3
   first : owner w (of-processor (from .row) (from .col) E) ≡ name i j
   owned : Owned w i j (ports r)
+  passes : passed r ≡ starts w i j
 
 fine-right : (w : View) (i j : ℕ) (from to : Place) (r : Run) → placed w i j ≡ from → placed w i (suc j) ≡ to → Fine w i j from to r → Right w i j
 fine-right w i j from to r e f g =
@@ -36,6 +68,7 @@ fine-right w i j from to r e f g =
       arrives = rw (e, f, g .is-run) (g .arrives);
       short = rw (e, g .is-run) (g .short);
       owned = rw (e, g .is-run) (g .first, g .owned);
+      passes = rw (e, g .is-run) (g .passes);
     }
 
 -- from the W port in one row to a processor that the link ends in: the run, where it ends, its length
@@ -94,16 +127,17 @@ module _ (L : ℕ → ℕ → Letter) (I : ℕ → ℕ → Inside) (k y : ℕ) w
       through-east mid = through-on 1 mid
       through-east bot = through-on 0 bot
 
-last-run : (k y : ℕ) (p q : Rel) (r : Run) → last (run k y p q r) ≡ last r
-last-run k y top top r = refl
-last-run k y top mid r = refl
-last-run k y top bot r = refl
-last-run k y mid top r = refl
-last-run k y mid mid r = refl
-last-run k y mid bot r = refl
-last-run k y bot top r = refl
-last-run k y bot mid r = refl
-last-run k y bot bot r = refl
+-- a crossing does not change where a run ends and which faults it passes
+run-kept : (k y : ℕ) (p q : Rel) (r : Run) → (last (run k y p q r) ≡ last r) × (passed (run k y p q r) ≡ passed r)
+run-kept k y top top r = (refl, refl)
+run-kept k y top mid r = (refl, refl)
+run-kept k y top bot r = (refl, refl)
+run-kept k y mid top r = (refl, refl)
+run-kept k y mid mid r = (refl, refl)
+run-kept k y mid bot r = (refl, refl)
+run-kept k y bot top r = (refl, refl)
+run-kept k y bot mid r = (refl, refl)
+run-kept k y bot bot r = (refl, refl)
 
 three : (k y x z : ℕ) (p q : Rel) → switches (run k y p q (enters x z W)) ≤ 3
 three k y x z top top = lit≤ tt
@@ -175,15 +209,17 @@ module _ (w : View) (r : Rules w) (k l : ℕ) (hi : suc k ≤ w .rows) (hj : suc
       (here w r k hi (suc (suc l)) kb)
       (record {
         is-run = within (across w) (inside w) k (suc l) p q t (healthy w r k hi (suc (suc l)) (omega arith) hj kb);
-        arrives = last-run k (suc l) p q (enters (row k q) (suc (suc l)) W);
+        arrives = run-kept k (suc l) p q (enters (row k q) (suc (suc l)) W) .0;
         short = three k (suc l) (row k q) (suc (suc l)) p q;
         first = owned-at w (suc k) (suc l) (row k p) (suc l) W ma s;
         owned = owns w k (suc l) (suc l) (enters (row k q) (suc (suc l)) W) s (owned-at w (suc k) (suc l) (row k q) (suc l) E mb s, tt) p q t ma mb;
+        passes = rw (a, b) (run-kept k (suc l) p q (enters (row k q) (suc (suc l)) W) .1);
       })
 
   -- the row's east path runs through both ends
-  along-east : w .path (suc k) (suc l) ≡ east → horizontal w (suc k) (suc (suc l)) ≡ v1 → Right w (suc k) (suc l)
-  along-east a b =
+  along-east : w .path (suc k) (suc l) ≡ east → horizontal w (suc k) (suc (suc l)) ≡ v1
+      → west-start (horizontal w (suc k) (suc l)) (name (suc k) (suc l)) [] ≡ [] → Right w (suc k) (suc l)
+  along-east a b n =
       let kb = known (suc (suc l)) v1 b in
       let kr = known (suc (suc (suc l))) v1 (after v1 v1 b under-1) in
       let eb : vertical w (suc k) (suc (suc l)) ≡ v0 = rw (kb .0) in
@@ -199,11 +235,13 @@ module _ (w : View) (r : Rules w) (k l : ℕ) (hi : suc k ≤ w .rows) (hj : suc
         short = lit≤ tt;
         first = own-W (suc (suc l)) eb s;
         owned = (own-W (suc (suc l)) eb s, (own-E (suc (suc l)) er s, (own-E (suc (suc l)) er s, tt)));
+        passes = rw b (sym n);
       })
 
   -- the row's west path runs through both ends
-  along-west : horizontal w (suc k) (suc l) ≡ v4 → w .path (suc k) (suc (suc l)) ≡ west → Right w (suc k) (suc l)
-  along-west a b =
+  along-west : horizontal w (suc k) (suc l) ≡ v4 → w .path (suc k) (suc (suc l)) ≡ west
+      → east-start (horizontal w (suc k) (suc (suc l))) (name (suc k) (suc (suc l))) ≡ [] → Right w (suc k) (suc l)
+  along-west a b n =
       let ka = known (suc l) v4 a in
       let kl = known l v4 (prior v4 v4 a over-4) in
       let ea : vertical w (suc k) (suc l) ≡ v0 = rw (ka .0) in
@@ -219,6 +257,7 @@ module _ (w : View) (r : Rules w) (k l : ℕ) (hi : suc k ≤ w .rows) (hj : suc
         short = lit≤ tt;
         first = own-W l el s;
         owned = (own-W l el s, (own-E l ea s, (own-E l ea s, tt)));
+        passes = rw a (sym n);
       })
 
   -- a west path starts at the near end
@@ -244,7 +283,7 @@ module _ (w : View) (r : Rules w) (k l : ℕ) (hi : suc k ≤ w .rows) (hj : suc
         is-run =
             on-straight (across w) (inside w) k l 2 (suc k) l (flat w r k hi l (omega arith) el ea) (rw (ka .0, ka .1))
             ∙ ap (λ z. switch (suc k) l W E (fault (suc k) (suc l) W E z)) (within-two (across w) (inside w) k (suc l) q t (healthy w r k hi (suc (suc l)) (omega arith) hj kb));
-        arrives = last-run k (suc l) mid q (enters (row k q) (suc (suc l)) W);
+        arrives = run-kept k (suc l) mid q (enters (row k q) (suc (suc l)) W) .0;
         short = omega (arith, two k (suc l) (row k q) (suc (suc l)) q);
         first = own-W l el sl;
         owned = (
@@ -260,6 +299,7 @@ module _ (w : View) (r : Rules w) (k l : ℕ) (hi : suc k ≤ w .rows) (hj : suc
             ),
           ),
         );
+        passes = rw (a, b) (ap (λ z. name (suc k) (suc l) ∷ z) (run-kept k (suc l) mid q (enters (row k q) (suc (suc l)) W) .1));
       })
 
   -- an east path starts at the far end
@@ -285,10 +325,11 @@ module _ (w : View) (r : Rules w) (k l : ℕ) (hi : suc k ≤ w .rows) (hj : suc
       (rw (kb .0))
       (record {
         is-run = through-east (across w) (inside w) k (suc l) (rw (kb .0, kb .1)) (flat w r k hi (suc (suc l)) hj eb er) (rw (kr .1)) p t;
-        arrives = last-run k (suc l) p mid rest;
+        arrives = run-kept k (suc l) p mid rest .0;
         short = past-two k (suc l) (suc k) (suc (suc l)) (suc (suc (suc l))) p;
         first = owned-at w (suc k) (suc l) (row k p) (suc l) W ma s;
         owned = owns w k (suc l) (suc l) rest s (own-E (suc l) eb s, (ow, (ow, (oe, (oe, tt))))) p mid t ma (rw eb);
+        passes = rw (a, b) (run-kept k (suc l) p mid rest .1);
       })
 
   -- both
@@ -327,6 +368,7 @@ module _ (w : View) (r : Rules w) (k l : ℕ) (hi : suc k ≤ w .rows) (hj : suc
         short = lit≤ tt;
         first = lw;
         owned = (lw, (le, (le, (mw, (mw, (me, (me, (ow, (ow, (oe, (oe, tt)))))))))));
+        passes = rw (a, b);
       })
 
   -- Document 003's Fig. 15, by the horizontal states of A at (i, j) and B at (i, j+1), with i = k+1 and j = l+1. State 0 is its
@@ -341,12 +383,12 @@ module _ (w : View) (r : Rules w) (k l : ℕ) (hi : suc k ≤ w .rows) (hj : suc
   by-states v0 v3 e f t = absurd t
   by-states v0 v4 e f t = absurd t
   by-states v1 v0 e f t = absurd t
-  by-states v1 v1 e f t = along-east (known (suc l) v1 e .0) f
+  by-states v1 v1 e f t = along-east (known (suc l) v1 e .0) f (rw e)
   by-states v1 v2 e f t = absurd t
   by-states v1 v3 e f t = absurd t
   by-states v1 v4 e f t = absurd t
   by-states v2 v0 e f t = absurd t
-  by-states v2 v1 e f t = along-east (known (suc l) v2 e .0) f
+  by-states v2 v1 e f t = along-east (known (suc l) v2 e .0) f (rw e)
   by-states v2 v2 e f t = absurd t
   by-states v2 v3 e f t = absurd t
   by-states v2 v4 e f t = absurd t
@@ -358,8 +400,8 @@ module _ (w : View) (r : Rules w) (k l : ℕ) (hi : suc k ≤ w .rows) (hj : suc
   by-states v4 v0 e f t = absurd t
   by-states v4 v1 e f t = absurd t
   by-states v4 v2 e f t = absurd t
-  by-states v4 v3 e f t = along-west e (known (suc (suc l)) v3 f .0)
-  by-states v4 v4 e f t = along-west e (known (suc (suc l)) v4 f .0)
+  by-states v4 v3 e f t = along-west e (known (suc (suc l)) v3 f .0) (rw f)
+  by-states v4 v4 e f t = along-west e (known (suc (suc l)) v4 f .0) (rw f)
 
   pub link-right : Right w (suc k) (suc l)
   link-right =

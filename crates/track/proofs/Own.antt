@@ -7,7 +7,7 @@ use mathlib.Core.Bool.{Bool, true, false}
 use lib.Dec.{T}
 use Rattle.track.proofs.View.{Dir, still, south, north, east, west, View}
 use Rattle.track.specs.Ports.{Compass, W, E, N, S}
-use Rattle.track.proofs.Walks.{State, v0, v1, v2, v3, v4, Letter, sa, sb, sc, sd, no-switch, Run, switch, fault, enters, dead, lost, too-long, Place, before, vertical, across, placed, link}
+use Rattle.track.proofs.Walks.{State, v0, v1, v2, v3, v4, Letter, sa, sb, sc, sd, no-switch, Run, switch, fault, enters, unjoined-at, lost, too-long, Place, before, vertical, across, placed, link}
 use Rattle.track.proofs.Cross.{Rel, top, mid, bot, row, leads}
 use Rattle.track.proofs.Runs.{is-eq₂, is-eq₃, run}
 
@@ -21,7 +21,7 @@ abbrev pub ports : Run → List Ref
 ports (switch x y p q r) = of-switch x y p ∷ of-switch x y q ∷ ports r
 ports (fault x y p q r) = of-processor x y p ∷ of-processor x y q ∷ ports r
 ports (enters x y p) = of-processor x y p ∷ []
-ports (dead x y) = []
+ports (unjoined-at x y) = []
 ports lost = []
 ports (too-long x y) = []
 

@@ -13,9 +13,9 @@ use Rattle.array.proofs.Places.{stands-between, inner-between, processor-within
 use Rattle.array.proofs.Marks.{healthy-else}
 use Rattle.paths.specs.Path.{ahead}
 use Rattle.paths.proofs.Directions.{by-number}
-use Rattle.track.specs.Ports.{Wafer, Processor}
+use Rattle.track.specs.Ports.{Wafer, Compass, Processor}
 use Rattle.track.specs.Follower.{processor-of}
-use Rattle.track.specs.Theorems.{Routed, holder, Cells-sit, Cells-alone}
+use Rattle.track.specs.Theorems.{Routed, Cell, holder, Neighbour, right, lower, Cells-sit, Cells-alone}
 use Rattle.track.proofs.View.{Dir, still, south, north, east, west, tr, View, transposed, Planned}
 use Rattle.track.proofs.Walks.{Place, moved, placed}
 use Rattle.track.proofs.Paths.{false-if, south-down, north-up, covered}
@@ -104,7 +104,8 @@ module _ (w : Wafer) (r : Routed w) (k l : ℕ) (hi : suc k ≤ w .rows) (hj : s
       let a : processor (w .rows) (w .columns) (holder w (suc k) (suc l)) ≡ true = rw (row-is, column-is) stands-there in
       let f : faulty (w .grid) (holder w (suc k) (suc l)) ≡ false = rw holder-is (rests-there .healthy-is) in
       let b = formed-of w r .marks (holder w (suc k) (suc l)) (omega (arith, holder-is, low-place)) in
-      (a, healthy-else (mark-at (w .grid) (holder w (suc k) (suc l))) (rw a at b) f)
+      let q = holder w (suc k) (suc l) in
+      (a, healthy-else (w .rows) (w .columns) (row q) (column q) (mark-at (w .grid) q) a b f)
 
 pub sits : Cells-sit
 sits w r zero j c = absurd (omega (arith, c .row-low))
@@ -133,3 +134,10 @@ alone w r (suc i) (suc j) zero l c c′ e = absurd (omega (arith, c′ .row-low)
 alone w r (suc i) (suc j) (suc k) zero c c′ e = absurd (omega (arith, c′ .column-low))
 alone w r (suc i) (suc j) (suc k) (suc l) c c′ e =
     alone-there w r i j k l (c .row-high) (c .column-high) (c′ .row-high) (c′ .column-high) e
+
+-- a neighbour is a cell
+pub neighbour-cell : (w : Wafer) (i j side k l : ℕ) (port : Compass) → Neighbour w i j side k l port → Cell w k l
+neighbour-cell w i j side k l port (right c h) =
+    record { row-low = c .row-low; row-high = c .row-high; column-low = omega arith; column-high = omega arith }
+neighbour-cell w i j side k l port (lower c h) =
+    record { row-low = omega arith; row-high = omega arith; column-low = c .column-low; column-high = c .column-high }

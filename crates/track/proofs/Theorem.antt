@@ -1,210 +1,93 @@
--- Every link to a neighbour reaches it over at most three switches, and no two of different name share a piece of track. Both sides at
--- once: a south link is the east link of the transposed view.
+-- On a routed wafer every link to a neighbour reaches it over at most three switches, no two of different name share a
+-- piece of track, and they enter every inner fault but those whose path starts at the rim, the dead processors among them.
 -- Assumes nothing.
-use mathlib.Core.Path.{_≡_, refl, sym, ap, subst, _∙_}
-use mathlib.Core.List.{List, [], _∷_, List·Memᴰ, List·Memᴰ·cases-cons, List·Memᴰ·not-nil}
-use mathlib.Core.Logic.{_⊎_, inl, inr}
-use Prim.Native.Nat.{ℕ, zero, suc, _≤_}
+use Prim.Native.Nat.{ℕ}
 use native.Mathlib.Omega.{arith}
-use native.Mathlib.Numerals.{add-one}
-use Rattle.track.specs.Ports.{Wafer, Compass, W, E, N, S, Node, Processor, Across, Down, Port, _at_}
-use Rattle.track.specs.Link.{Enters}
-use Rattle.track.specs.Pieces.{Piece, Same}
-use Rattle.track.specs.Theorems.{Routed, out, Neighbour, right, lower, Reaches, Links-reach, Neighbour-link, pieces-of, No-piece-shared}
-use Rattle.track.proofs.View.{Dir, still, south, north, east, west, tr, View, transposed}
-use Rattle.track.proofs.Walks.{Run, switch, fault, enters, dead, lost, too-long, Place, moved, placed, across, inside}
-use Rattle.track.proofs.Own.{of-switch, of-processor, ports, name, owner, Owned}
-use Rattle.track.proofs.Links.{link-right}
-use Rattle.track.proofs.FromPlan.{transposed-plan, plan-rules}
-use Rattle.track.proofs.Trails.{turned, unturned, down-turned, processor-turned, eastward, southward, trail, leaves, last-arrives, last-enters, trail-switches}
-use Rattle.track.proofs.Held.{view-of, planned-of, along-rows, along-columns}
-use Rattle.track.proofs.Seats.{processor-is}
-use Rattle.track.proofs.OneLink.{one-link}
-use Rattle.track.specs.Pieces as pieces
-use Rattle.track.proofs.Walks as walks
+use mathlib.Core.Path.{_≡_, sym, ap, subst, _∙_}
+use mathlib.Core.Bool.{true, false≢true}
+use mathlib.Core.List.{List·Memᴰ}
+use lib.ListN.{getD}
+use Rattle.array.specs.Place.{position, row, column}
+use Rattle.array.specs.Map.{mark-at, dead}
+use Rattle.array.proofs.Bools.{and-both}
+use Rattle.array.proofs.Marks.{faulty-below, dead-faulty, dead-inner}
+use Rattle.paths.proofs.Opens.{open-from-rim}
+use Rattle.plans.proofs.ByPosition.{buffer-plan}
+use Rattle.track.specs.Ports.{Wafer, Compass, Node, Processor, Across, Down}
+use Rattle.track.specs.Link.{Trail, Link}
+use Rattle.track.specs.Pieces.{Piece}
+use Rattle.track.specs.Theorems.{Routed, out, Neighbour, Links-reach, Neighbour-link, pieces-of, No-piece-shared}
+use Rattle.track.specs.Avoids.{Visits, Rim-fault, Avoids-faults, Avoids-dead, Uses-others}
+use Rattle.track.proofs.Held.{view-of, formed-of}
+use Rattle.track.proofs.OneLink.{one-link, past-broken}
+use Rattle.track.proofs.Sound.{named, Both, every-at, Mine, good, same-name}
+use Rattle.track.proofs.Avoids.{avoids, met-fault}
 
--- the link whose port a port may be
-record Name : Type 0 where
-  pub side : ℕ
-  pub row : ℕ
-  pub col : ℕ
+module _ (w : Wafer) (r : Routed w) where
+  -- what is broken is a dead processor, and its path starts at the rim
+  broken-rim : (x y : ℕ) → w .broken (Processor x y) ≡ true → Rim-fault w (position x y)
+  broken-rim x y b =
+      let p = position x y in
+      let f = formed-of w r in
+      let d : dead (w .grid) p ≡ true = sym (r .broken-are (Processor x y)) ∙ b in
+      let e = dead-faulty (mark-at (w .grid) p) d in
+      let m = f .marks p (omega (arith, faulty-below (w .grid) p e, f .length-is)) in
+      let h = and-both _ _ (dead-inner (w .rows) (w .columns) (row p) (column p) (mark-at (w .grid) p) m d) e in
+      let o = buffer-plan (w .rows) (w .columns) (w .grid) (w .directions) .0 (r .plan) .open-path p h in
+      record { is-fault = h; starts = open-from-rim (w .rows) (w .columns) p (getD (w .directions) p 0) (w .grid) o d }
 
-abbrev named : ℕ → ℕ → ℕ → Name
-named s i j = record { side = s; row = i; col = j }
+  none-broken : (t : Trail) → ((x y : ℕ) → Rim-fault w (position x y) → Visits t (Processor x y) → ⊥)
+      → (v : Node) → w .broken v ≡ true → Visits t v → ⊥
+  none-broken t n (Processor x y) b g = n x y (broken-rim x y b) g
+  none-broken t n (Across x y) b g = false≢true (sym (r .broken-are (Across x y)) ∙ b)
+  none-broken t n (Down x y) b g = false≢true (sym (r .broken-are (Down x y)) ∙ b)
 
-abbrev east-name : Place → Name
-east-name c = named 0 (c .row) (c .col)
+  -- the link of the sound wafer is a link
+  there : (i j side k l : ℕ) (port : Compass) (n : Neighbour w i j side k l port)
+      → Link w (out w i j side) (good w r i j side k l port n .reaches .link)
+  there i j side k l port n =
+      let g = good w r i j side k l port n .reaches in
+      past-broken w (out w i j side) (g .link) (none-broken (g .link) (avoids w r i j side k l port n)) (g .is-link)
 
-abbrev south-name : Place → Name
-south-name c = named 1 (c .col) (c .row)
+  module _ (u : Neighbour-link w) where
+    as-good : good w r (u .i) (u .j) (u .side) (u .k) (u .l) (u .port) (u .to) .reaches .link ≡ u .link
+    as-good =
+        one-link w (out w (u .i) (u .j) (u .side)) _ (u .link)
+        (there (u .i) (u .j) (u .side) (u .k) (u .l) (u .port) (u .to)) (u .is-link)
 
-abbrev whose-at : View → Node → Compass → Name
-whose-at v (Across x y) p = east-name (owner v (of-switch x y p))
-whose-at v (Down x y) p = south-name (owner (transposed v) (of-switch y x (turned p)))
-whose-at v (Processor x y) E = east-name (owner v (of-processor x y E))
-whose-at v (Processor x y) W = east-name (owner v (of-processor x y W))
-whose-at v (Processor x y) N = south-name (owner (transposed v) (of-processor y x W))
-whose-at v (Processor x y) S = south-name (owner (transposed v) (of-processor y x E))
+    own : (a : Piece) → List·Memᴰ a (pieces-of w u) → Both (Mine (view-of w) (u .side) (u .i) (u .j)) a
+    own a h =
+        let g = good w r (u .i) (u .j) (u .side) (u .k) (u .l) (u .port) (u .to) in
+        every-at (Both (Mine (view-of w) (u .side) (u .i) (u .j))) (pieces-of w u) (rw as-good at (g .mine)) a h
 
-abbrev whose : View → Port → Name
-whose v a = whose-at v (a .node) (a .side)
-
--- both ports of a piece
-abbrev Both : (Port → Type 0) → Piece → Type 0
-Both P (pieces.stretch a b) = P a × P b
-Both P (pieces.join k s t) = P (k at s) × P (k at t)
-
-abbrev Every : {A : Type 0} → (A → Type 0) → List A → Type 0
-Every P [] = Unit {0}
-Every P (a ∷ rest) = P a × Every P rest
-
-every-at : {A : Type 0} (P : A → Type 0) (l : List A) → Every P l → (a : A) → List·Memᴰ a l → P a
-every-at P [] e a m = absurd (List·Memᴰ·not-nil m)
-every-at P (b ∷ l) e a m = go (every-at P l (e .1) a) (List·Memᴰ·cases-cons m)
-  where
-    go : (List·Memᴰ a l → P a) → (a ≡ b) ⊎ List·Memᴰ a l → P a
-    go ih (inl q) = subst P (sym q) (e .0)
-    go ih (inr q) = ih q
-
--- the ports of a run that are all owned by one cell give pieces whose ports all pass
-module _
-    (v : View) (i j : ℕ) (sw pr : ℕ → ℕ → Node) (tp : Compass → Compass) (P : Port → Type 0)
-    (at-switch : (x y : ℕ) (p : Compass) → owner v (of-switch x y p) ≡ name i j → P (sw x y at tp p))
-    (at-processor : (x y : ℕ) (p : Compass) → owner v (of-processor x y p) ≡ name i j → P (pr x y at tp p))
-  where
-    owned-pieces : (o : Port) (r : Run) → P o → Owned v i j (ports r) → Every (Both P) (pieces.pieces o (trail sw pr tp r))
-    unfolding pieces.pieces
-    owned-pieces o (switch x y p q r) h e =
-        let a = at-switch x y p (e .0) in
-        let b = at-switch x y q (e .1 .0) in
-        ((h, a), ((a, b), owned-pieces (sw x y at tp q) r b (e .1 .1)))
-    owned-pieces o (fault x y p q r) h e =
-        let a = at-processor x y p (e .0) in
-        let b = at-processor x y q (e .1 .0) in
-        ((h, a), ((a, b), owned-pieces (pr x y at tp q) r b (e .1 .1)))
-    owned-pieces o (enters x y p) h e = ((h, at-processor x y p (e .0)), tt)
-    owned-pieces o (dead x y) h e = tt
-    owned-pieces o lost h e = tt
-    owned-pieces o (too-long x y) h e = tt
-
-nobody : {A : Type 0} (k l : ℕ) → name zero zero ≡ name (suc k) (suc l) → A
-nobody k l e = let z : 0 ≡ suc k = ap (λ c. c .row) e in absurd (omega arith)
-
-abbrev Mine : View → ℕ → ℕ → ℕ → Port → Type 0
-Mine v s i j a = whose v a ≡ named s i j
-
-module _ (v : View) (k l : ℕ) where
-  east-switch : (x y : ℕ) (p : Compass) → owner v (of-switch x y p) ≡ name (suc k) (suc l) → Mine v 0 (suc k) (suc l) (Across x y at p)
-  east-switch x y p e = ap east-name e
-
-  east-processor : (x y : ℕ) (p : Compass) → owner v (of-processor x y p) ≡ name (suc k) (suc l) → Mine v 0 (suc k) (suc l) (Processor x y at p)
-  east-processor x y W e = ap east-name e
-  east-processor x y E e = ap east-name e
-  east-processor x y N e = nobody k l e
-  east-processor x y S e = nobody k l e
-
-  south-switch : (x y : ℕ) (p : Compass) → owner (transposed v) (of-switch x y p) ≡ name (suc l) (suc k)
-      → Mine v 1 (suc k) (suc l) (Down y x at turned p)
-  south-switch x y W e = ap south-name e
-  south-switch x y E e = ap south-name e
-  south-switch x y N e = ap south-name e
-  south-switch x y S e = ap south-name e
-
-  south-processor : (x y : ℕ) (p : Compass) → owner (transposed v) (of-processor x y p) ≡ name (suc l) (suc k)
-      → Mine v 1 (suc k) (suc l) (Processor y x at turned p)
-  south-processor x y W e = ap south-name e
-  south-processor x y E e = ap south-name e
-  south-processor x y N e = nobody l k e
-  south-processor x y S e = nobody l k e
-
--- rows and columns exchanged
-moved-tr : (d : Dir) (i j : ℕ) → moved (tr d) j i ≡ name (moved d i j .col) (moved d i j .row)
-moved-tr still i j = refl
-moved-tr south i j = refl
-moved-tr north i j = refl
-moved-tr east i j = refl
-moved-tr west i j = refl
-
--- a link that reaches, with all its pieces its own
-record Good (w : Wafer) (i j side k l : ℕ) (port : Compass) : Type 0 where
-  pub reaches : Reaches w i j side k l port
-  pub mine : Every (Both (Mine (view-of w) side i j)) (pieces.pieces (out w i j side) (reaches .link))
-
-module _ (w : Wafer) (r : Routed w) (k l : ℕ) where
-  east-good : suc k ≤ w .rows → suc (suc l) ≤ w .columns → Good w (suc k) (suc l) 0 (suc k) (suc (suc l)) W
-  east-good a b =
-      let v = view-of w in
-      let g = link-right v (plan-rules v (planned-of w r)) k l a b in
-      let c = placed v (suc k) (suc l) in
-      let t = walks.link v (suc k) (suc l) in
-      let o : Processor (c .row) (c .col) at E ≡ out w (suc k) (suc l) 0 = rw (processor-is w r k l a (omega arith)) in
-      record {
-        reaches = record {
-          link = trail Across Processor unturned t;
-          is-link =
-              rw o at (leaves w Across Processor unturned (across v) (inside v) eastward (along-rows w r) 3 (c .row) (c .col) (last-arrives t _ _ W (g .arrives)));
-          ends = rw (processor-is w r k (suc l) a b) (last-enters Across Processor unturned t _ _ W (g .arrives));
-          few = rw (trail-switches Across Processor unturned eastward t) (g .short);
-        };
-        mine =
-            rw o at (owned-pieces v (suc k) (suc l) Across Processor unturned (Mine v 0 (suc k) (suc l)) (east-switch v k l) (east-processor v k l)
-            (Processor (c .row) (c .col) at E) t (east-processor v k l (c .row) (c .col) E (g .owned .0)) (g .owned .1));
-      }
-
-  south-good : suc (suc k) ≤ w .rows → suc l ≤ w .columns → Good w (suc k) (suc l) 1 (suc (suc k)) (suc l) N
-  south-good a b =
-      let v = view-of w in
-      let u = transposed v in
-      let g = link-right u (plan-rules u (transposed-plan v (planned-of w r))) l k b a in
-      let c = placed u (suc l) (suc k) in
-      let t = walks.link u (suc l) (suc k) in
-      let m = moved-tr (v .path (suc k) (suc l)) (suc k) (suc l) in
-      let m′ = moved-tr (v .path (suc (suc k)) (suc l)) (suc (suc k)) (suc l) in
-      let o : Processor (c .col) (c .row) at S ≡ out w (suc k) (suc l) 1 =
-      rw (processor-is w r k l (omega arith) b) (ap (λ (z : Place). Processor (z .col) (z .row) at S) m) in
-      record {
-        reaches = record {
-          link = trail down-turned processor-turned turned t;
-          is-link =
-              rw o at (leaves w down-turned processor-turned turned (across u) (inside u) southward (along-columns w r) 3 (c .row) (c .col) (last-arrives t _ _ W (g .arrives)));
-          ends =
-              rw (processor-is w r (suc k) l a b)
-              (subst (λ (z : Place). Enters (trail down-turned processor-turned turned t) (Processor (z .col) (z .row) at N)) m′
-              (last-enters down-turned processor-turned turned t _ _ W (g .arrives)));
-          few = rw (trail-switches down-turned processor-turned turned southward t) (g .short);
-        };
-        mine =
-            rw o at (owned-pieces u (suc l) (suc k) down-turned processor-turned turned (Mine v 1 (suc k) (suc l)) (south-switch v k l) (south-processor v k l)
-            (Processor (c .col) (c .row) at S) t (south-processor v k l (c .row) (c .col) E (g .owned .0)) (g .owned .1));
-      }
-
-good : (w : Wafer) → Routed w → (i j side k l : ℕ) (port : Compass) → Neighbour w i j side k l port → Good w i j side k l port
-good w r zero j side k l port (right c h) = absurd (omega (arith, c .row-low))
-good w r zero j side k l port (lower c h) = absurd (omega (arith, c .row-low))
-good w r (suc i) zero side k l port (right c h) = absurd (omega (arith, c .column-low))
-good w r (suc i) zero side k l port (lower c h) = absurd (omega (arith, c .column-low))
-good w r (suc i) (suc j) side k l port (right c h) = rw (add-one (suc j)) (east-good w r i j (c .row-high) h)
-good w r (suc i) (suc j) side k l port (lower c h) = rw (add-one (suc i)) (south-good w r i j h (c .column-high))
+    avoided : (x y : ℕ) → Rim-fault w (position x y) → Visits (u .link) (Processor x y) → ⊥
+    avoided x y f g =
+        avoids w r (u .i) (u .j) (u .side) (u .k) (u .l) (u .port) (u .to) x y f
+        (subst (λ (t : Trail). Visits t (Processor x y)) (sym as-good) g)
 
 pub reaches : Links-reach
-reaches w r i j side k l port h = good w r i j side k l port h .reaches
-
--- a piece that a port of each of two links is at
-same-name : (v : View) (n m : Name) (a b : Piece) → Both (λ (z : Port). whose v z ≡ n) a → Both (λ (z : Port). whose v z ≡ m) b → Same a b → n ≡ m
-same-name v n m (pieces.stretch a b) (pieces.stretch a′ b′) h g (inl e) = sym (h .0) ∙ ap (whose v) (e .0) ∙ g .0
-same-name v n m (pieces.stretch a b) (pieces.stretch a′ b′) h g (inr e) = sym (h .0) ∙ ap (whose v) (e .0) ∙ g .1
-same-name v n m (pieces.stretch a b) (pieces.join k s t) h g e = absurd e
-same-name v n m (pieces.join k s t) (pieces.stretch a b) h g e = absurd e
-same-name v n m (pieces.join k s t) (pieces.join k′ s′ t′) h g (e, inl f) = sym (h .0) ∙ ap (λ z. whose-at v z s) e ∙ ap (whose-at v k′) (f .0) ∙ g .0
-same-name v n m (pieces.join k s t) (pieces.join k′ s′ t′) h g (e, inr f) = sym (h .0) ∙ ap (λ z. whose-at v z s) e ∙ ap (whose-at v k′) (f .0) ∙ g .1
-
-own : (w : Wafer) → Routed w → (u : Neighbour-link w) (a : Piece) → List·Memᴰ a (pieces-of w u) → Both (Mine (view-of w) (u .side) (u .i) (u .j)) a
-own w r u a h =
-    let g = good w r (u .i) (u .j) (u .side) (u .k) (u .l) (u .port) (u .to) in
-    let e = one-link w (out w (u .i) (u .j) (u .side)) (g .reaches .link) (u .link) (g .reaches .is-link) (u .is-link) in
-    every-at (Both (Mine (view-of w) (u .side) (u .i) (u .j))) (pieces-of w u) (rw e at (g .mine)) a h
+reaches w r i j side k l port n =
+    let g = good w r i j side k l port n .reaches in
+    record { link = g .link; is-link = there w r i j side k l port n; ends = g .ends; few = g .few }
 
 pub no-shared-piece : No-piece-shared
 no-shared-piece w r u v a b h g s =
     let e = same-name (view-of w) (named (u .side) (u .i) (u .j)) (named (v .side) (v .i) (v .j)) a b (own w r u a h) (own w r v b g) s in
     (ap (λ n. n .row) e, ap (λ n. n .col) e, ap (λ n. n .side) e)
+
+pub avoids-faults : Avoids-faults
+avoids-faults w r u x y f g = avoided w r u x y f g
+
+pub avoids-dead : Avoids-dead
+avoids-dead w r u v b g = none-broken w r (u .link) (avoided w r u) v b g
+
+pub uses-others : Uses-others
+uses-others w r p h b =
+    met-fault w r p h b
+    (λ i j side k l port n m.
+    let g = good w r i j side k l port n in
+    let t = there w r i j side k l port n in
+    record {
+      by = record { i = i; j = j; side = side; k = k; l = l; port = port; to = n; link = g .reaches .link; is-link = t };
+      visits = g .enters-met (row p) (column p) m;
+    })

@@ -8,14 +8,14 @@ use mathlib.Core.Option.{Option, some}
 use lib.Dec.{T}
 use Rattle.track.specs.Ports.{Wafer, Compass, W, E, N, S, Node, Processor, Across, Down, Port, _at_, neighbour, stands, stretch-from}
 use Rattle.track.specs.Link.{Trail, Link, Enters}
-use Rattle.track.proofs.Walks.{Letter, sa, sb, sc, sd, no-switch, Joined, to, unjoined, missing, join, Inside, ends, runs, stuck, Run, switch, fault, enters, dead, lost, too-long, last, switches, enter-W, enter-E, north-of, pass, one-more, walk}
+use Rattle.track.proofs.Walks.{Letter, sa, sb, sc, sd, no-switch, Joined, to, unjoined, missing, join, Inside, ends, runs, stuck, Run, switch, fault, enters, unjoined-at, lost, too-long, last, switches, enter-W, enter-E, north-of, pass, one-more, walk}
 use Rattle.track.specs.Link as link
 
 abbrev pub arrives : Run → Bool
 arrives (switch x y p q r) = arrives r
 arrives (fault x y p q r) = arrives r
 arrives (enters x y p) = true
-arrives (dead x y) = false
+arrives (unjoined-at x y) = false
 arrives lost = false
 arrives (too-long x y) = false
 
@@ -89,7 +89,7 @@ abbrev pub trail : (ℕ → ℕ → Node) → (ℕ → ℕ → Node) → (Compas
 trail sw pr tp (switch x y p q r) = link.passes (sw x y at tp p) (sw x y at tp q) (trail sw pr tp r)
 trail sw pr tp (fault x y p q r) = link.passes (pr x y at tp p) (pr x y at tp q) (trail sw pr tp r)
 trail sw pr tp (enters x y p) = link.enters (pr x y at tp p)
-trail sw pr tp (dead x y) = link.unfinished
+trail sw pr tp (unjoined-at x y) = link.unfinished
 trail sw pr tp lost = link.unfinished
 trail sw pr tp (too-long x y) = link.unfinished
 
@@ -181,7 +181,7 @@ pub last-arrives : (r : Run) (x y : ℕ) (p : Compass) → last r ≡ enters x y
 last-arrives (switch x y p q r) a b c e = last-arrives r a b c e
 last-arrives (fault x y p q r) a b c e = last-arrives r a b c e
 last-arrives (enters x y p) a b c e = tt
-last-arrives (dead x y) a b c e = true≢false (cc)
+last-arrives (unjoined-at x y) a b c e = true≢false (cc)
 last-arrives lost a b c e = true≢false (cc)
 last-arrives (too-long x y) a b c e = true≢false (cc)
 
@@ -194,7 +194,7 @@ module _ (sw pr : ℕ → ℕ → Node) (tp : Compass → Compass) where
       let g : y ≡ b = cc in
       let h : p ≡ c = cc in
       rw (f, g, h)
-  last-enters (dead x y) a b c e = last-arrives (dead x y) a b c e
+  last-enters (unjoined-at x y) a b c e = last-arrives (unjoined-at x y) a b c e
   last-enters lost a b c e = last-arrives lost a b c e
   last-enters (too-long x y) a b c e = last-arrives (too-long x y) a b c e
 
@@ -203,6 +203,6 @@ module _ (sw pr : ℕ → ℕ → Node) (tp : Compass → Compass) where
   trail-switches ax (switch x y p q r) = rw (ax .switch-is x y) (ap suc (trail-switches ax r))
   trail-switches ax (fault x y p q r) = rw (ax .processor-is x y) (trail-switches ax r)
   trail-switches ax (enters x y p) = refl
-  trail-switches ax (dead x y) = refl
+  trail-switches ax (unjoined-at x y) = refl
   trail-switches ax lost = refl
   trail-switches ax (too-long x y) = refl

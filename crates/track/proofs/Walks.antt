@@ -99,7 +99,7 @@ pub data Run : Type 0 where
   switch : ℕ → ℕ → Compass → Compass → Run → Run
   fault : ℕ → ℕ → Compass → Compass → Run → Run
   enters : ℕ → ℕ → Compass → Run
-  dead : ℕ → ℕ → Run
+  unjoined-at : ℕ → ℕ → Run
   lost : Run
   too-long : ℕ → ℕ → Run
 
@@ -122,7 +122,7 @@ north-of k (suc x) y = k x y S
 -- the switch filed under (x, y) is passed from port p
 abbrev pub pass : (ℕ → ℕ → Compass → Run) → Inside → Inside → ℕ → ℕ → Compass → Joined → Run
 pass k west-in east-in x y p missing = lost
-pass k west-in east-in x y p unjoined = dead x y
+pass k west-in east-in x y p unjoined = unjoined-at x y
 pass k west-in east-in x y p (to E) = switch x y p E (enter-W k east-in x (suc y))
 pass k west-in east-in x y p (to W) = switch x y p W (enter-E k west-in x y)
 pass k west-in east-in x y p (to N) = switch x y p N (north-of k x y)
@@ -168,7 +168,7 @@ abbrev pub switches : Run → ℕ
 switches (switch x y p q r) = suc (switches r)
 switches (fault x y p q r) = switches r
 switches (enters x y p) = zero
-switches (dead x y) = zero
+switches (unjoined-at x y) = zero
 switches lost = zero
 switches (too-long x y) = zero
 
@@ -177,7 +177,7 @@ abbrev pub last : Run → Run
 last (switch x y p q r) = last r
 last (fault x y p q r) = last r
 last (enters x y p) = enters x y p
-last (dead x y) = dead x y
+last (unjoined-at x y) = unjoined-at x y
 last lost = lost
 last (too-long x y) = too-long x y
 

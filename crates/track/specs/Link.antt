@@ -1,13 +1,13 @@
 -- Document 01, "Placement and routing": a link, from the port it leaves by, from stretch to join to stretch, into the first processor that
--- joins nothing. One definition serves both sides. Assumes nothing.
+-- ends it (`ends-link`). One definition serves both sides. Assumes nothing.
 use Prim.Native.Nat.{ℕ, zero, suc}
 use mathlib.Core.Path.{_≡_}
 use mathlib.Core.Bool.{Bool, true, false}
 use mathlib.Core.Option.{Option, none, some}
-use Rattle.track.specs.Ports.{Wafer, Compass, Node, Processor, Across, Down, Port, _at_, stretch-from, joins-nothing, joined}
+use Rattle.track.specs.Ports.{Wafer, Compass, Node, Processor, Across, Down, Port, _at_, stretch-from, ends-link, joined}
 
 -- What a run comes to: a switch or fault that it passes, from the port entered by to the port joined to it, and so on; or a processor
--- that joins nothing, which ends it. It fails at a port that is joined to nothing, or where no stretch leads on.
+-- that ends it. It fails at a port that is joined to nothing, or where no stretch leads on.
 -- `unfinished` where a computed run is given too few steps.
 pub data Trail : Type 0 where
   passes : Port → Port → Trail → Trail
@@ -27,7 +27,7 @@ joined-to v none = stops
 joined-to v (some q) = on (v at q)
 
 unfoldable pub inside : Wafer → Port → Inside
-inside w i = elim (joins-nothing w (i .node)) [ true ↦ ends | false ↦ joined-to (i .node) (joined w (i .node) (i .side)) ]
+inside w i = elim (ends-link w (i .node)) [ true ↦ ends | false ↦ joined-to (i .node) (joined w (i .node) (i .side)) ]
 
 -- t is the link that leaves by the port o, whatever its length
 pub data Link (w : Wafer) : Port → Trail → Type 0 where

@@ -7,22 +7,9 @@ use mathlib.Core.Option.{Option, none, some}
 use lib.Dec.{eqb}
 use lib.ListN.{getD}
 use Rattle.array.specs.Place.{position, processor-at}
-use Rattle.array.specs.Map.{inner-fault}
+use Rattle.array.specs.Map.{dead, inner-fault}
 use Rattle.paths.specs.Path.{by-direction}
 use Rattle.track.specs.Letters.{across-exists, down-exists, a, b, c, d}
-
--- a wafer with its paths and its switches set: what a link runs through
-pub record Wafer : Type 0 where
-  pub rows : ℕ
-  pub columns : ℕ
-  pub grid : List ℕ
-  pub directions : List ℕ
-  pub across : List ℕ
-  pub down : List ℕ
-
-abbrev pub wafer : ℕ → ℕ → List ℕ → List ℕ → List ℕ → List ℕ → Wafer
-wafer n m grid directions across down =
-    record { rows = n; columns = m; grid = grid; directions = directions; across = across; down = down }
 
 pub data Compass : Type 0 where
   W E N S : Compass
@@ -30,6 +17,35 @@ pub data Compass : Type 0 where
 -- by row and column; a switch by those it is filed under
 pub data Node : Type 0 where
   Processor Across Down : ℕ → ℕ → Node
+
+-- a wafer with its paths and its switches set: what a link runs through; the nodes that are broken join none of their
+-- ports, whatever is set (T-04: the dead processors)
+pub record Wafer : Type 0 where
+  pub rows : ℕ
+  pub columns : ℕ
+  pub grid : List ℕ
+  pub directions : List ℕ
+  pub across : List ℕ
+  pub down : List ℕ
+  pub broken : Node → Bool
+
+-- the nodes that the map says are broken
+abbrev pub dead-node : List ℕ → Node → Bool
+dead-node grid (Processor x y) = dead grid (position x y)
+dead-node grid (Across x y) = false
+dead-node grid (Down x y) = false
+
+abbrev pub wafer : ℕ → ℕ → List ℕ → List ℕ → List ℕ → List ℕ → Wafer
+wafer n m grid directions across down =
+    record {
+      rows = n;
+      columns = m;
+      grid = grid;
+      directions = directions;
+      across = across;
+      down = down;
+      broken = dead-node grid;
+    }
 
 pub record Port : Type 0 where
   pub node : Node
@@ -120,15 +136,20 @@ down-joins l = by-letter l W–E N–S W–S·E–N W–N·E–S unjoined
 abbrev pub fault-joins : ℕ → Compass → Option Compass
 fault-joins d = by-direction d N–S N–S W–E W–E unjoined
 
--- a processor that joins nothing is any but an inner fault
-unfoldable pub joins-nothing : Wafer → Node → Bool
-joins-nothing w (Processor x y) = not (inner-fault (w .rows) (w .columns) (w .grid) (position x y))
-joins-nothing w (Across x y) = false
-joins-nothing w (Down x y) = false
+-- A link ends at any processor but an inner fault (document 01: a processor that joins nothing). A dead processor joins
+-- nothing either, but is an inner fault: a link that enters it is at an unjoined port, 17.
+unfoldable pub ends-link : Wafer → Node → Bool
+ends-link w (Processor x y) = not (inner-fault (w .rows) (w .columns) (w .grid) (position x y))
+ends-link w (Across x y) = false
+ends-link w (Down x y) = false
 
--- the port of a node that is joined inside to a port of it
-unfoldable pub joined : Wafer → Node → Compass → Option Compass
-joined w (Processor x y) s =
+-- the port of a node that is set to be joined inside to a port of it
+unfoldable pub set-to : Wafer → Node → Compass → Option Compass
+set-to w (Processor x y) s =
     cond (inner-fault (w .rows) (w .columns) (w .grid) (position x y)) (fault-joins (getD (w .directions) (position x y) 0) s) none
-joined w (Across x y) s = across-joins (getD (w .across) (position x y) 0) s
-joined w (Down x y) s = down-joins (getD (w .down) (position x y) 0) s
+set-to w (Across x y) s = across-joins (getD (w .across) (position x y) 0) s
+set-to w (Down x y) s = down-joins (getD (w .down) (position x y) 0) s
+
+-- and that is joined: none of a broken node
+unfoldable pub joined : Wafer → Node → Compass → Option Compass
+joined w v s = cond (w .broken v) none (set-to w v s)

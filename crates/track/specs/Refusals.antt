@@ -22,8 +22,9 @@ pub data Passed (w : Wafer) (cell side : ℕ) : ℕ → ℕ → Port → Type 0 
   by-fault : {k c : ℕ} {o i q : Port} → Passed w cell side k c o → stretch-from w o ≡ some i → is-switch (i .node) ≡ false → inside w i ≡ on q
       → Passed w cell side k c q
 
--- 17: the track ends, before a fourth switch, at an unjoined port of a switch, which was entered, or of a fault, at a missing switch or at a
--- faulty spare; the place is the switch last entered, or where the cell sits while there is none
+-- 17: the track ends, before a fourth switch, at an unjoined port of a switch, which was entered, or of a fault (any port
+-- of a dead one), at a missing switch or at a faulty spare; the place is the switch last entered, or where the cell sits
+-- while there is none
 pub data Track-ends (w : Wafer) (cell side : ℕ) : ℕ → Type 0 where
   unjoined-switch : {k c : ℕ} {o i : Port} → Passed w cell side k c o → k < 3 → stretch-from w o ≡ some i → is-switch (i .node) ≡ true
       → inside w i ≡ stops → Track-ends w cell side (position-of (i .node))

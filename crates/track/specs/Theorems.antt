@@ -14,19 +14,20 @@ use Rattle.plans.specs.Faults.{faults, directions-at, directed-faults}
 use Rattle.plans.specs.Plan.{Plan}
 use Rattle.track.specs.Placement.{placement}
 use Rattle.track.specs.Letters.{x, entry, across-exists, down-exists, across-letters, down-letters, vertical-at, horizontal-at}
-use Rattle.track.specs.Ports.{Wafer, Compass, W, N, Port, _at_}
+use Rattle.track.specs.Ports.{Wafer, Compass, W, N, Node, Port, _at_, dead-node}
 use Rattle.track.specs.Link.{Trail, Link, Enters, switches}
 use Rattle.track.specs.Pieces.{Piece, pieces, Same}
 use Rattle.track.specs.Follower.{port-number, processor-of, out-of, seat-of, followed, switches-test}
 use Rattle.track.specs.declared.Followed.the-variants.{Entered}
 
--- A well-formed map, directions that are a plan at its inner faults, and the switches that routing sets for them. Nothing is asked of what
--- stands elsewhere among the directions.
+-- A well-formed map, directions that are a plan at its inner faults, the switches that routing sets for them, and what is
+-- broken is what the map says. Nothing is asked of what stands elsewhere among the directions.
 pub record Routed (w : Wafer) : Type 0 where
   pub map : well-formed (w .rows) (w .columns) (w .grid) ≡ Accepted
   pub plan : Plan (w .rows) (w .columns) (w .grid) (directions-at (w .directions) (faults (w .rows) (w .columns) (w .grid)))
   pub across-set : w .across ≡ across-letters (w .rows) (w .columns) (w .grid) (w .directions)
   pub down-set : w .down ≡ down-letters (w .rows) (w .columns) (w .grid) (w .directions)
+  pub broken-are : (v : Node) → w .broken v ≡ dead-node (w .grid) v
 
 -- [i, j] is a cell
 pub record Cell (w : Wafer) (i j : ℕ) : Type 0 where

@@ -3,20 +3,21 @@
 use Prim.Native.Nat.{ℕ, _+_, _<_, _≤_}
 use mathlib.Core.Path.{_≡_, refl, sym, ap, _∙_}
 use mathlib.Core.Bool.{Bool, true, not, _&&_, _||_}
+use mathlib.Core.Logic.{⊎-elim}
 use mathlib.Core.List.{List, [], _∷_, _++_}
 use native.Mathlib.Nat.{zero-add}
 use native.Mathlib.Omega.{arith}
-use lib.Dec.{ltb, eqb}
+use lib.Dec.{ltb, leb, eqb}
 use lib.ListN.{length, getD, drop}
 use lib.Seq.{sets, sets-eq}
 use borrow.Author.Tests.{leb-true, eqb-true, ltb-false, lt-ltb, le-ltb, eq-eqb, ne-eqb}
 use Rattle.array.specs.Place.{inner, processor}
 use Rattle.array.specs.Buffer.{long, all-long}
 use Rattle.array.specs.Tests.{or-else, refuse, first-in, refusal}
-use Rattle.array.specs.Map.{allowed, size-test, length-test, mark-test, map-tests}
+use Rattle.array.specs.Map.{dead-mark, allowed, size-test, length-test, mark-test, map-tests}
 use Rattle.array.specs.declared.Refusal.{Refusal}
 use Rattle.array.specs.declared.Verdict.{Verdict}
-use Rattle.array.proofs.Bools.{by-bool, or-false, and-one}
+use Rattle.array.proofs.Bools.{by-bool, or-true, or-false, and-one}
 use Rattle.array.proofs.Places.{Sized, sized}
 use Rattle.array.proofs.Verdicts.{both-accepted, accepted-not, accepted-false}
 use Rattle.array.proofs.Scans.{scan-each, buffer-scan}
@@ -42,9 +43,14 @@ tests-are Plan n m b = refl
 -- an accepted element
 mark-low : (n m p v : ℕ) → allowed n m p v ≡ true → v ≤ 4
 mark-low n m p v h =
+    by-bool (inner n m p)
+    (λ t.
+    ⊎-elim (λ e. let l : v ≤ 1 = leb-true v 1 e in omega arith) (λ e. let l : v ≡ 3 = eqb-true v 3 e in omega arith)
+    (or-true (leb v 1) (dead-mark v) (rw t at h)))
+    (λ t.
     by-bool (processor n m p)
-    (λ t. let l : v ≤ 1 = leb-true v 1 (rw t at h) in omega arith)
-    (λ t. let l : v ≡ 2 = eqb-true v 2 (rw t at h) in omega arith)
+    (λ u. let l : v ≤ 1 = leb-true v 1 (rw (t, u) at h) in omega arith)
+    (λ u. let l : v ≡ 2 = eqb-true v 2 (rw (t, u) at h) in omega arith))
 
 element-low : (kind : Kind) (n m p v : ℕ) → element-test kind n m p v ≡ verdict.Accepted → v ≤ 4
 element-low Map n m p v h = mark-low n m p v (accepted-not (allowed n m p v) 3 p 0 h)

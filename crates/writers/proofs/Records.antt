@@ -1,42 +1,66 @@
 -- The records of a buffer: their parts, a turn of the loop over them and their length.
 -- Assumes nothing.
-use Prim.Native.Nat.{ℕ, suc, _+_, _<_, _≤_}
+use Prim.Native.Nat.{ℕ, suc, _+_, _*_, _<_, _≤_}
 use mathlib.Core.Path.{_≡_, refl, sym, ap, _∙_}
 use mathlib.Core.Bool.{Bool, true, false, cond}
 use mathlib.Core.List.{List, [], _∷_, _++_, append-assoc, append-nil}
 use native.Mathlib.Numerals.{add-one}
 use native.Mathlib.Omega.{arith}
+use lib.Dec.{eqb}
 use lib.ListN.{length, getD, drop, length-append, drop-of-length-le}
 use lib.Seq.{drop-cons}
+use borrow.Author.Tests.{eq-eqb, ne-eqb}
 use Rattle.array.specs.Place.{row, column}
 use Rattle.array.specs.Buffer.{positions-along}
 use Rattle.array.proofs.Bools.{by-bool, cond-taken, cond-left}
 use Rattle.formats.specs.Number.{bytes-of}
-use Rattle.formats.specs.Records.{recorded, record-bytes, records-along, record-count, file-bytes}
+use Rattle.formats.specs.Records.{recorded, record-bytes, records-along, record-count, list-bytes, first-list, second-list, file-bytes}
 use Rattle.formats.specs.declared.Kind.{Kind}
 use Rattle.formats.specs.declared.Kind.the-variants.{Map, Plan}
+use Rattle.formats.specs.declared.Record.{Record}
+use Rattle.formats.specs.declared.Record.the-variants.{Fault, Dead, Path}
 use Rattle.formats.proofs.Cases.{one-byte}
-use Rattle.writers.specs.Parts.{pair-bytes, value-bytes, element-bytes, records-of, records-length}
+use Rattle.writers.specs.Parts.{pair-bytes, value-bytes, element-bytes, records-of, records-length, list-length, dead-count, dead-list, dead-length}
 use Rattle.writers.proofs.Runs.{Splits}
 
 -- a record is its row with its column, and its value
-pub record-is : (kind : Kind) (p v : ℕ) → record-bytes kind p v ≡ pair-bytes (row p) (column p) ++ value-bytes kind v
-record-is Map p v = sym (append-nil (pair-bytes (row p) (column p)))
-record-is Plan p v = sym (append-assoc (bytes-of (row p)) (bytes-of (column p)) (bytes-of v))
+pub record-is : (kind : Record) (p v : ℕ) → record-bytes kind p v ≡ pair-bytes (row p) (column p) ++ value-bytes kind v
+record-is Fault p v = sym (append-nil (pair-bytes (row p) (column p)))
+record-is Dead p v = sym (append-nil (pair-bytes (row p) (column p)))
+record-is Path p v = sym (append-assoc (bytes-of (row p)) (bytes-of (column p)) (bytes-of v))
 
-pub pair-first : (kind : Kind) (p v : ℕ) → Splits (record-bytes kind p v) (pair-bytes (row p) (column p)) (value-bytes kind v)
+pub pair-first : (kind : Record) (p v : ℕ) → Splits (record-bytes kind p v) (pair-bytes (row p) (column p)) (value-bytes kind v)
 pair-first kind p v = record { is = record-is kind p v }
 
--- a file is N with M, the count and the records
-pub sizes-first :
-    (kind : Kind) (n m count : ℕ) (b : List ℕ) →
+-- a list is its count and its records; a file is N with M and its lists
+pub count-first :
+    (kind : Record) (count : ℕ) (b : List ℕ) →
     count ≡ record-count kind b →
-    Splits (file-bytes kind n m b) (pair-bytes n m) (bytes-of count ++ records-of kind b)
+    Splits (list-bytes kind b) (bytes-of count) (records-of kind b)
+count-first kind count b e = record { is = rw e refl }
+
+pub sizes-first :
+    (kind : Kind) (n m dead : ℕ) (b : List ℕ) →
+    dead ≡ dead-count kind b →
+    Splits (file-bytes kind n m b) (pair-bytes n m) (list-bytes (first-list kind) b ++ dead-list dead b)
 unfolding file-bytes
-sizes-first kind n m count b e = record { is = rw e (sym (append-assoc (bytes-of n) (bytes-of m) _)) }
+sizes-first Map n m dead b e = record { is = rw e (sym (append-assoc (bytes-of n) (bytes-of m) _)) }
+sizes-first Plan n m dead b e = record { is = rw e (sym (append-assoc (bytes-of n) (bytes-of m) _)) }
+
+-- the list of k dead processors
+module _ (k : ℕ) (b : List ℕ) where
+  pub dead-none : k ≡ 0 → dead-list k b ≡ []
+  dead-none z = cond-taken [] (list-bytes Dead b) refl (eq-eqb k 0 z)
+
+  pub dead-some : (k ≡ 0 → ⊥) → dead-list k b ≡ list-bytes Dead b
+  dead-some z = cond-left [] (list-bytes Dead b) refl (ne-eqb k 0 z)
+
+  pub dead-known : (kind : Kind) → k ≡ dead-count kind b → 0 < k → k ≡ record-count Dead b
+  dead-known Map e l = e
+  dead-known Plan e l = absurd (omega arith)
 
 -- the bytes of an element whose test a callee answered as r
-module _ (kind : Kind) (p v : ℕ) {r : Bool} (e : r ≡ recorded kind p v) where
+module _ (kind : Record) (p v : ℕ) {r : Bool} (e : r ≡ recorded kind p v) where
   pub element-some : r ≡ true → element-bytes kind p v ≡ record-bytes kind p v
   element-some t = cond-taken (record-bytes kind p v) [] e t
 
@@ -48,10 +72,10 @@ cond-append true a r = refl
 cond-append false a r = refl
 
 -- what is left to write from position p on
-abbrev pub records-from : Kind → List ℕ → ℕ → List ℕ
+abbrev pub records-from : Record → List ℕ → ℕ → List ℕ
 records-from kind b p = records-along (recorded kind) (record-bytes kind) p (drop p b)
 
-module _ (kind : Kind) (b : List ℕ) (p : ℕ) where
+module _ (kind : Record) (b : List ℕ) (p : ℕ) where
   turn : p < length b → records-from kind b p ≡ element-bytes kind p (getD b p 0) ++ records-from kind b (p + 1)
   unfolding records-along
   turn h = rw (drop-cons b p 0 h, add-one p) (cond-append (recorded kind p (getD b p 0)) _ _)
@@ -64,19 +88,23 @@ module _ (kind : Kind) (b : List ℕ) (p : ℕ) where
   records-end h = rw (drop-of-length-le b h)
 
 -- The numbers of a record take one byte each where its value is small.
-record-length :
-    (kind : Kind) (p v k : ℕ) →
-    p < 1024 →
-    v < 128 →
-    length (record-bytes kind p v) + records-length kind k ≡ records-length kind (suc k)
-record-length Map p v k h l =
+place-length : (p k : ℕ) → p < 1024 → length (pair-bytes (row p) (column p)) + 2 * k ≡ 2 * suc k
+place-length p k h =
     omega (
       arith,
       length-append (bytes-of (row p)) (bytes-of (column p)),
       one-byte (row p) (omega arith),
       one-byte (column p) (omega arith),
     )
-record-length Plan p v k h l =
+
+record-length :
+    (kind : Record) (p v k : ℕ) →
+    p < 1024 →
+    v < 128 →
+    length (record-bytes kind p v) + records-length kind k ≡ records-length kind (suc k)
+record-length Fault p v k h l = place-length p k h
+record-length Dead p v k h l = place-length p k h
+record-length Path p v k h l =
     omega (
       arith,
       length-append (bytes-of (row p)) (bytes-of (column p) ++ bytes-of v),
@@ -86,15 +114,16 @@ record-length Plan p v k h l =
       one-byte v l,
     )
 
-no-records : (kind : Kind) → 0 ≡ records-length kind 0
-no-records Map = refl
-no-records Plan = refl
+no-records : (kind : Record) → 0 ≡ records-length kind 0
+no-records Fault = refl
+no-records Dead = refl
+no-records Path = refl
 
 abbrev Small : List ℕ → Type 0
 Small xs = (k : ℕ) → k < length xs → getD xs k 0 < 128
 
 along-length :
-    (kind : Kind) (xs : List ℕ) (i : ℕ) →
+    (kind : Record) (xs : List ℕ) (i : ℕ) →
     i + length xs ≤ 1024 →
     Small xs →
     length (records-along (recorded kind) (record-bytes kind) i xs) ≡ records-length kind (length (positions-along (recorded kind) i xs))
@@ -112,23 +141,33 @@ along-length kind (x ∷ xs) i h s =
     ∙ record-length kind i x _ (omega arith) v))
     (λ t. rw t ih)
 
--- the length of a file whose values are small
-pub file-length :
-    (kind : Kind) (n m : ℕ) (b : List ℕ) →
-    n ≤ 30 →
-    m ≤ 30 →
-    length b ≡ 1024 →
-    Small b →
-    length (file-bytes kind n m b) ≡ 2 + length (bytes-of (record-count kind b)) + records-length kind (record-count kind b)
-unfolding file-bytes record-count
-file-length kind n m b a d w s =
-    let k = bytes-of (record-count kind b) in
-    omega (
-      arith,
-      length-append (bytes-of n) (bytes-of m ++ (k ++ records-of kind b)),
-      length-append (bytes-of m) (k ++ records-of kind b),
-      length-append k (records-of kind b),
-      one-byte n (omega arith),
-      one-byte m (omega arith),
-      along-length kind b 0 (omega arith) s,
-    )
+-- the length of a list and of a file whose values are small
+module _ (b : List ℕ) (w : length b ≡ 1024) (s : Small b) where
+  listed-length : (kind : Record) → length (list-bytes kind b) ≡ list-length kind (record-count kind b)
+  unfolding record-count
+  listed-length kind =
+      omega (arith, length-append (bytes-of (record-count kind b)) (records-of kind b), along-length kind b 0 (omega arith) s)
+
+  second-length : (kind : Kind) → length (second-list kind b) ≡ dead-length (dead-count kind b)
+  second-length Map = by-bool (eqb (record-count Dead b) 0) (λ t. rw t refl) (λ t. rw t (listed-length Dead))
+  second-length Plan = refl
+
+  pub file-length :
+      (kind : Kind) (n m : ℕ) →
+      n ≤ 30 →
+      m ≤ 30 →
+      length (file-bytes kind n m b)
+      ≡ 2 + list-length (first-list kind) (record-count (first-list kind) b) + dead-length (dead-count kind b)
+  unfolding file-bytes
+  file-length kind n m a d =
+      let first = list-bytes (first-list kind) b in
+      omega (
+        arith,
+        length-append (bytes-of n) (bytes-of m ++ (first ++ second-list kind b)),
+        length-append (bytes-of m) (first ++ second-list kind b),
+        length-append first (second-list kind b),
+        one-byte n (omega arith),
+        one-byte m (omega arith),
+        listed-length (first-list kind),
+        second-length kind,
+      )

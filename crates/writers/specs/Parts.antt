@@ -1,41 +1,62 @@
--- What the parts of a writer write, for both kinds of file. Assumes nothing.
-use Prim.Native.Nat.{ℕ, _*_, _≤_}
+-- What the parts of a writer write, for all kinds of record. Assumes nothing.
+use Prim.Native.Nat.{ℕ, _+_, _*_, _≤_}
 use mathlib.Core.Path.{_≡_}
 use mathlib.Core.Bool.{cond}
 use mathlib.Core.List.{List, [], _++_}
+use lib.Dec.{eqb}
 use lib.ListN.{length}
 use Rattle.formats.specs.Number.{bytes-of}
-use Rattle.formats.specs.Records.{recorded, record-bytes, records-along, record-count, file-bytes}
+use Rattle.formats.specs.Records.{recorded, record-bytes, records-along, record-count, list-bytes, first-list, file-bytes}
 use Rattle.formats.specs.declared.Kind.{Kind}
 use Rattle.formats.specs.declared.Kind.the-variants.{Map, Plan}
+use Rattle.formats.specs.declared.Record.{Record}
+use Rattle.formats.specs.declared.Record.the-variants.{Fault, Dead, Path}
 
 -- the bytes of two numbers
 abbrev pub pair-bytes : ℕ → ℕ → List ℕ
 pair-bytes x y = bytes-of x ++ bytes-of y
 
 -- the bytes of a record after its row and column
-abbrev pub value-bytes : Kind → ℕ → List ℕ
-value-bytes Map v = []
-value-bytes Plan v = bytes-of v
+abbrev pub value-bytes : Record → ℕ → List ℕ
+value-bytes Fault v = []
+value-bytes Dead v = []
+value-bytes Path v = bytes-of v
 
 -- the bytes of an element of a buffer: those of its record where it has one
-abbrev pub element-bytes : Kind → ℕ → ℕ → List ℕ
+abbrev pub element-bytes : Record → ℕ → ℕ → List ℕ
 element-bytes kind p v = cond (recorded kind p v) (record-bytes kind p v) []
 
 -- the records of a buffer
-abbrev pub records-of : Kind → List ℕ → List ℕ
+abbrev pub records-of : Record → List ℕ → List ℕ
 records-of kind b = records-along (recorded kind) (record-bytes kind) 0 b
 
--- the length of k records, whose numbers take one byte each
-abbrev pub records-length : Kind → ℕ → ℕ
-records-length Map k = 2 * k
-records-length Plan k = 3 * k
+-- the length of k records, whose numbers take one byte each, and of their list
+abbrev pub records-length : Record → ℕ → ℕ
+records-length Fault k = 2 * k
+records-length Dead k = 2 * k
+records-length Path k = 3 * k
+
+abbrev pub list-length : Record → ℕ → ℕ
+list-length kind k = length (bytes-of k) + records-length kind k
+
+-- T-04: how many dead processors a file has records of, and the list of k of them with its length, where there is one
+abbrev pub dead-count : Kind → List ℕ → ℕ
+dead-count Map grid = record-count Dead grid
+dead-count Plan directions = 0
+
+abbrev pub dead-list : ℕ → List ℕ → List ℕ
+dead-list k grid = cond (eqb k 0) [] (list-bytes Dead grid)
+
+abbrev pub dead-length : ℕ → ℕ
+dead-length k = cond (eqb k 0) 0 (list-length Dead k)
 
 -- what the parts of a file are written under
-pub record Fitting (kind : Kind) (n m count : ℕ) (b out : List ℕ) : Type 0 where
+pub record Fitting (kind : Kind) (n m count dead : ℕ) (b out : List ℕ) : Type 0 where
   pub rows : n ≤ 30
   pub columns : m ≤ 30
   pub long : length b ≡ 1024
-  pub counted : count ≡ record-count kind b
+  pub counted : count ≡ record-count (first-list kind) b
   pub few : count ≤ 1024
+  pub dead-counted : dead ≡ dead-count kind b
+  pub few-dead : dead ≤ 1024
   pub room : length (file-bytes kind n m b) ≤ length out

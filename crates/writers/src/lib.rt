@@ -2,16 +2,18 @@
 use array::Refusal;
 use array::Verdict;
 use formats::Kind;
+use formats::Record;
 ghost use mathlib.Core.Path.{_≡_};
 ghost use Prim.Native.Nat.{_+_, _<_, _≤_};
 ghost use lib.ListN.{length};
 ghost use lib.Seq.{sets};
 ghost use Rattle.array.specs.Tests.{first-in};
 ghost use Rattle.array.specs.declared.Verdict.the-variants.{Accepted};
-ghost use Rattle.formats.specs.Records.{record-bytes, record-count, file-bytes};
+ghost use Rattle.formats.specs.Records.{record-bytes, record-count, list-bytes, file-bytes};
 ghost use Rattle.writers.specs.Writing.{told, path-test, buffer-test, room-test, put, write-file, write-map, write-plan};
-ghost use Rattle.writers.specs.Parts.{pair-bytes, value-bytes, element-bytes, records-of, records-length, Fitting};
+ghost use Rattle.writers.specs.Parts.{pair-bytes, value-bytes, element-bytes, records-of, records-length, list-length, dead-count, dead-list, dead-length, Fitting};
 ghost use Rattle.formats.specs.declared.Kind.the-variants.{Plan};
+ghost use Rattle.formats.specs.declared.Record.the-variants.{Dead};
 
 // What a writer answers: the length of the file, or the refusal.
 pub enum FileWritten {
@@ -70,8 +72,8 @@ fn check_buffer(kind: Kind, n: usize, m: usize, b: &[u8]) -> Verdict
     }
 }
 
-// How many records a buffer has.
-fn count_records(kind: Kind, b: &[u8]) -> usize
+// How many records of a kind a buffer has.
+fn count_records(kind: Record, b: &[u8]) -> usize
     requires { ⌜ length (now b) ≡ 1024 ⌝ }
     ensures { λ r. ⌜ (r ≡ record-count kind (now (b .entry))) × (r ≤ 1024) ⌝ }
 {
@@ -84,15 +86,46 @@ fn count_records(kind: Kind, b: &[u8]) -> usize
     count
 }
 
+// How many dead processors a file has records of.
+fn count_dead(kind: Kind, b: &[u8]) -> usize
+    requires { ⌜ length (now b) ≡ 1024 ⌝ }
+    ensures { λ r. ⌜ (r ≡ dead-count kind (now (b .entry))) × (r ≤ 1024) ⌝ }
+{
+    match kind {
+        Kind::Map => count_records(Record::Dead, b),
+        Kind::Plan => 0,
+    }
+}
+
 // The length of so many records.
-fn length_of_records(kind: Kind, count: usize) -> usize
+fn length_of_records(kind: Record, count: usize) -> usize
     requires { ⌜ count ≤ 1024 ⌝ }
     ensures { λ r. ⌜ (r ≡ records-length kind count) × (r ≤ 3072) ⌝ }
 {
     match kind {
-        Kind::Map => 2 * count,
-        Kind::Plan => 3 * count,
+        Record::Fault => 2 * count,
+        Record::Dead => 2 * count,
+        Record::Path => 3 * count,
     }
+}
+
+// The length of a list of so many records, with its count.
+fn length_of_list(kind: Record, count: usize) -> usize
+    requires { ⌜ count ≤ 1024 ⌝ }
+    ensures { λ r. ⌜ (r ≡ list-length kind count) × (r ≤ 3074) ⌝ }
+{
+    formats::number_length(count) + length_of_records(kind, count)
+}
+
+// The length of the list of so many dead processors: nothing where there is none.
+fn length_of_dead(dead: usize) -> usize
+    requires { ⌜ dead ≤ 1024 ⌝ }
+    ensures { λ r. ⌜ (r ≡ dead-length dead) × (r ≤ 3074) ⌝ }
+{
+    if dead == 0 {
+        return 0;
+    }
+    length_of_list(Record::Dead, dead)
 }
 
 // Writes two numbers at an offset, one after the other, and gives the offset after them.
@@ -105,18 +138,19 @@ fn write_pair(out: &mut [u8], at: usize, x: usize, y: usize) -> usize
 }
 
 // Writes what a record has after its row and column, and gives the offset after it.
-fn write_value(kind: Kind, out: &mut [u8], at: usize, v: u8) -> usize
+fn write_value(kind: Record, out: &mut [u8], at: usize, v: u8) -> usize
     requires { ⌜ at + length (value-bytes kind v) ≤ length (now out) ⌝ }
     ensures { λ r. ⌜ (r ≡ at + length (value-bytes kind v)) × (now (out .exit) ≡ sets (now (out .entry)) at (value-bytes kind v)) ⌝ }
 {
     match kind {
-        Kind::Map => at,
-        Kind::Plan => formats::write_number(out, at, v as usize),
+        Record::Fault => at,
+        Record::Dead => at,
+        Record::Path => formats::write_number(out, at, v as usize),
     }
 }
 
 // Writes the record of an element at position p, and gives the offset after it.
-fn write_record(kind: Kind, out: &mut [u8], at: usize, p: usize, v: u8) -> usize
+fn write_record(kind: Record, out: &mut [u8], at: usize, p: usize, v: u8) -> usize
     requires { ⌜ (p < 1024) × (at + length (record-bytes kind p v) ≤ length (now out)) ⌝ }
     ensures { λ r. ⌜ (r ≡ at + length (record-bytes kind p v)) × (now (out .exit) ≡ sets (now (out .entry)) at (record-bytes kind p v)) ⌝ }
 {
@@ -125,7 +159,7 @@ fn write_record(kind: Kind, out: &mut [u8], at: usize, p: usize, v: u8) -> usize
 }
 
 // Writes the record of an element at position p where it has one, and gives the offset after it.
-fn write_element(kind: Kind, out: &mut [u8], at: usize, p: usize, v: u8) -> usize
+fn write_element(kind: Record, out: &mut [u8], at: usize, p: usize, v: u8) -> usize
     requires { ⌜ (p < 1024) × (at + length (element-bytes kind p v) ≤ length (now out)) ⌝ }
     ensures { λ r. ⌜ (r ≡ at + length (element-bytes kind p v)) × (now (out .exit) ≡ sets (now (out .entry)) at (element-bytes kind p v)) ⌝ }
 {
@@ -136,7 +170,7 @@ fn write_element(kind: Kind, out: &mut [u8], at: usize, p: usize, v: u8) -> usiz
 }
 
 // Writes the records of a buffer in row order, and gives the offset after them.
-fn write_records(kind: Kind, out: &mut [u8], start: usize, b: &[u8]) -> usize
+fn write_records(kind: Record, out: &mut [u8], start: usize, b: &[u8]) -> usize
     requires { ⌜ (length (now b) ≡ 1024) × (start + length (records-of kind (now b)) ≤ length (now out)) ⌝ }
     ensures { λ r. ⌜ (r ≡ start + length (records-of kind (now (b .entry)))) × (now (out .exit) ≡ sets (now (out .entry)) start (records-of kind (now (b .entry)))) ⌝ }
 {
@@ -147,14 +181,43 @@ fn write_records(kind: Kind, out: &mut [u8], start: usize, b: &[u8]) -> usize
     at
 }
 
+// Writes a list, its count and its records, and gives the offset after it.
+fn write_list(kind: Record, out: &mut [u8], at: usize, count: usize, b: &[u8]) -> usize
+    requires { ⌜ (length (now b) ≡ 1024) × (count ≡ record-count kind (now b)) × (count ≤ 1024) × (at + length (list-bytes kind (now b)) ≤ length (now out)) ⌝ }
+    ensures { λ r. ⌜ (r ≡ at + length (list-bytes kind (now (b .entry)))) × (now (out .exit) ≡ sets (now (out .entry)) at (list-bytes kind (now (b .entry)))) ⌝ }
+{
+    let next = formats::write_number(out, at, count);
+    write_records(kind, out, next, b)
+}
+
+// Writes the list of so many dead processors where there is one, and gives the offset after it.
+fn write_dead(out: &mut [u8], at: usize, count: usize, b: &[u8]) -> usize
+    requires { ⌜ (length (now b) ≡ 1024) × (0 < count → count ≡ record-count Dead (now b)) × (count ≤ 1024) × (at + length (dead-list count (now b)) ≤ length (now out)) ⌝ }
+    ensures { λ r. ⌜ (r ≡ at + length (dead-list count (now (b .entry)))) × (now (out .exit) ≡ sets (now (out .entry)) at (dead-list count (now (b .entry)))) ⌝ }
+{
+    if count == 0 {
+        return at;
+    }
+    write_list(Record::Dead, out, at, count, b)
+}
+
 // Writes a whole file, and gives its length.
-fn write_parts(kind: Kind, out: &mut [u8], n: usize, m: usize, count: usize, b: &[u8]) -> usize
-    requires { ⌜ Fitting kind n m count (now b) (now out) ⌝ }
+fn write_parts(
+    kind: Kind,
+    out: &mut [u8],
+    n: usize,
+    m: usize,
+    count: usize,
+    dead: usize,
+    b: &[u8],
+) -> usize
+    requires { ⌜ Fitting kind n m count dead (now b) (now out) ⌝ }
     ensures { λ r. ⌜ (r ≡ length (file-bytes kind n m (now (b .entry)))) × (now (out .exit) ≡ sets (now (out .entry)) 0 (file-bytes kind n m (now (b .entry)))) ⌝ }
 {
     let third = write_pair(out, 0, n, m);
-    let fourth = formats::write_number(out, third, count);
-    write_records(kind, out, fourth, b)
+    let first = formats::first_list(kind);
+    let end = write_list(first, out, third, count, b);
+    write_dead(out, end, dead, b)
 }
 
 // Writes the file of a buffer that passed its tests, where there is room.
@@ -162,8 +225,10 @@ fn write_checked(kind: Kind, n: usize, m: usize, b: &[u8], out: &mut [u8]) -> Fi
     requires { ⌜ buffer-test kind n m (now b) ≡ Accepted ⌝ }
     ensures { λ r. ⌜ (r, now (out .exit)) ≡ put (room-test (file-bytes kind n m (now (b .entry))) (now (out .entry))) (file-bytes kind n m (now (b .entry))) (now (out .entry)) ⌝ }
 {
-    let count = count_records(kind, b);
-    let needed = 2 + formats::number_length(count) + length_of_records(kind, count);
+    let first = formats::first_list(kind);
+    let count = count_records(first, b);
+    let dead = count_dead(kind, b);
+    let needed = 2 + length_of_list(first, count) + length_of_dead(dead);
     if out.len() < needed {
         return FileWritten::Refused(Refusal {
             number: 14,
@@ -171,7 +236,7 @@ fn write_checked(kind: Kind, n: usize, m: usize, b: &[u8], out: &mut [u8]) -> Fi
             second: 0,
         });
     }
-    FileWritten::Length(write_parts(kind, out, n, m, count, b))
+    FileWritten::Length(write_parts(kind, out, n, m, count, dead, b))
 }
 
 // Writes a file of either kind.

@@ -1,11 +1,11 @@
 -- `follower::inside_at` meets its contract, kind by kind.
 -- Assumes nothing.
-use mathlib.Core.Path.{sym, ap, _∙_}
+use mathlib.Core.Path.{refl, sym, ap, _∙_}
 use denote.Ref.{now}
 use Prim.Native.Nat.{ℕ}
 use lib.ListN.{getD}
 use Rattle.array.specs.Place.{position}
-use Rattle.array.specs.Map.{inner-faulty}
+use Rattle.array.specs.Map.{dead-mark, inner-faulty}
 use Rattle.array.proofs.Marks.{mark-read}
 use Rattle.follower.specs.Inner.{compass, processor-joins}
 use Rattle.follower.proofs.Sides.{finds-processor, finds-across, finds-down}
@@ -36,7 +36,7 @@ returns c =
     let p = position (a .port .row) (a .port .column) in
     finds-processor _ (a .port) _ (c .before .before .before .if1 .taken)
     (c .processor-join .ensures
-    ∙ ap (λ (x : ℕ). processor-joins (inner-faulty (a .n) (a .m) p x) (getD (now (a .directions)) p 0) (compass (a .port .side)))
+    ∙ ap (λ (x : ℕ). processor-joins (inner-faulty (a .n) (a .m) p x) (dead-mark x) (getD (now (a .directions)) p 0) (compass (a .port .side)))
     (sym (mark-read (now (a .grid)) p (omega arith))))
 
 shared-slice-read-switch-join : tie.Need-shared-slice-read-switch-join
@@ -46,7 +46,7 @@ switch-join-requires : tie.Need-switch-join-requires
 switch-join-requires c κs = search needs
 
 returns-2 : tie.Need-returns-2
-returns-2 c = finds-across _ (c .before .before .before .before .before .before .before .before .before .before .args .port) _ (c .before .before .if2 .taken) (c .switch-join .ensures)
+returns-2 c = finds-across _ (c .before .before .before .before .before .before .before .before .before .before .args .port) _ (c .before .before .if2 .taken) refl (c .switch-join .ensures)
 
 shared-slice-read-switch-join-2 : tie.Need-shared-slice-read-switch-join-2
 shared-slice-read-switch-join-2 c = search needs
@@ -55,7 +55,7 @@ switch-join-requires-2 : tie.Need-switch-join-requires-2
 switch-join-requires-2 c κs = search needs
 
 returns-3 : tie.Need-returns-3
-returns-3 c = finds-down _ (c .before .before .before .before .before .before .before .before .before .before .args .port) _ (omega arith) (c .switch-join2 .ensures)
+returns-3 c = finds-down _ (c .before .before .before .before .before .before .before .before .before .before .args .port) _ (omega arith) refl (c .switch-join2 .ensures)
 
 pub inside-at-spec : {M : Type 1} → statement M
 inside-at-spec =

@@ -1,91 +1,72 @@
--- `paths::is_open` meets its contract: the processors passed are not faulty.
+-- `paths::is_open` meets its contract: first whether the path may start, then what it passes.
 -- Assumes nothing.
-use mathlib.Core.Path.{_≡_, sym, _∙_}
-use Prim.Native.Nat.{_-_, _≤_}
+use mathlib.Core.Path.{_≡_, refl, sym, ap, _∙_}
+use mathlib.Core.Bool.{Bool, true, false, not, _&&_, _||_}
+use mathlib.Core.List.{List}
+use Prim.Native.Nat.{ℕ, _<_}
 use native.Mathlib.Omega.{arith}
+use lib.ListN.{length, getD}
 use borrow.Author.Needs.{needs}
-use Rattle.paths.specs.Path.{path-length, is-open}
-use Rattle.paths.proofs.Ways.{start-way, start-inner}
-use Rattle.paths.proofs.Walking.{path-long, open-from, open-start, open-end, open-by-mark}
+use Rattle.array.specs.Map.{dead-mark}
+use Rattle.array.proofs.Marks.{mark-read}
+use Rattle.paths.specs.Path.{from-rim, may-start, is-free, is-open}
+use Rattle.paths.proofs.Ways.{start-inner}
 use Rattle.paths.proofs.is_open.Statement.{statement}
 use Rattle.paths.proofs.is_open.Tie as tie
 
-abbrev Inv-loop : tie.InvT-loop
-Inv-loop n m grid p d count k₀ k = (k ≤ path-length n m p d) × (is-open n m grid p d ≡ open-from n m grid p d k)
+-- not from the rim is what stops a dead start
+started : (a b : Bool) → (not a || b) ≡ not (a && not b)
+started true true = refl
+started true false = refl
+started false b = refl
 
-abbrev μ-loop : tie.MeasureT-loop
-μ-loop n m grid p d count k₀ k = path-length n m p d - k
+-- where a path may start, by what is answered of the mark and of the rim
+start-by : (n m p d : ℕ) (grid : List ℕ) (r s : Bool) → p < length grid → r ≡ dead-mark (getD grid p 0) → s ≡ from-rim n m p d
+    → may-start n m grid p d ≡ not (r && not s)
+start-by n m p d grid r s h e f = rw (mark-read grid p h, ← e, ← f) (started r s)
 
--- the path has two processors or more, and at most 32
-long : (s : tie.Start Inv-loop μ-loop)
-    → (2 ≤ path-length (s .args .n) (s .args .m) (s .args .p) (s .args .d))
-    × (path-length (s .args .n) (s .args .m) (s .args .p) (s .args .d) ≤ 32)
-long s =
-    let t = s .pre .0 in
-    path-long (s .args .n) (s .args .m) (s .args .p) (s .args .d) (t .rows) (t .columns) (start-way t) (start-inner t)
+start-of : (c : tie.After-is-from-rim)
+    → let a = c .before .before .before .before .args in
+    may-start (a .n) (a .m) (a .grid .now) (a .p) (a .d) ≡ not (c .before .is-dead .result && not (c .is-from-rim .result))
+start-of c =
+    let s = c .before .before .before .before in
+    let a = s .args in
+    start-by (a .n) (a .m) (a .p) (a .d) (a .grid .now) _ _ (omega (arith, start-inner (s .pre .0))) (c .before .is-dead .ensures)
+    (c .is-from-rim .ensures)
 
-length-of-requires : tie.Need-length-of-requires Inv-loop μ-loop
-length-of-requires c κs = search needs
+shared-slice-read-is-dead : tie.Need-shared-slice-read-is-dead
+shared-slice-read-is-dead c = omega (arith, start-inner (c .before .before .pre .0))
 
-loop-holds : tie.Need-loop-holds Inv-loop μ-loop
-loop-holds c =
-    let s = long (c .before .before) in
-    let a = c .before .before .args in
-    (omega arith, open-start (a .n) (a .m) (a .grid .now) (a .p) (a .d) (omega arith))
+is-dead-requires : tie.Need-is-dead-requires
+is-dead-requires c κs = search needs
 
-step-ahead-requires : tie.Need-step-ahead-requires Inv-loop μ-loop
-step-ahead-requires c κs = search needs
+is-from-rim-requires : tie.Need-is-from-rim-requires
+is-from-rim-requires c κs = search needs
 
-shared-slice-read-is-faulty : tie.Need-shared-slice-read-is-faulty Inv-loop μ-loop
-shared-slice-read-is-faulty c = omega arith
-
-is-faulty-requires : tie.Need-is-faulty-requires Inv-loop μ-loop
-is-faulty-requires c κs = search needs
-
-returns : tie.Need-returns Inv-loop μ-loop
+returns : tie.Need-returns
+unfolding is-open
 returns c =
-    let l = c .before .before .before .before .before in
-    let a = l .before .before .before .args in
-    let r = c .before .before .before .step-ahead in
-    sym (l .loop .inv .1
-    ∙ open-by-mark (a .n) (a .m) (a .grid .now) (a .p) (a .d) (l .loop .k) (r .result) (omega arith) (r .ensures .0) (omega (arith, r .ensures .1))
-    (c .before .is-faulty .ensures) (c .if1 .taken))
+    let a = c .before .before .before .before .before .args in
+    let s = start-of (c .before) ∙ ap not (c .if1 .taken) in
+    sym (ap (λ (b : Bool). b && is-free (a .n) (a .m) (a .grid .now) (a .p) (a .d)) s)
 
-add-k : tie.Need-add-k Inv-loop μ-loop
-add-k c = omega arith
+is-free-requires : tie.Need-is-free-requires
+is-free-requires c κs = search needs
 
-loop-less : tie.Need-loop-less Inv-loop μ-loop
-loop-less c = omega arith
-
-loop-again : tie.Need-loop-again Inv-loop μ-loop
-loop-again c =
-    let l = c .before .before .before .before .before in
-    let a = l .before .before .before .args in
-    let r = c .before .before .before .step-ahead in (
-      omega arith,
-      l .loop .inv .1
-          ∙ open-by-mark (a .n) (a .m) (a .grid .now) (a .p) (a .d) (l .loop .k) (r .result) (omega arith) (r .ensures .0) (omega (arith, r .ensures .1))
-          (c .before .is-faulty .ensures) (c .if1 .left),
-    )
-
-returns-2 : tie.Need-returns-2 Inv-loop μ-loop
+returns-2 : tie.Need-returns-2
+unfolding is-open
 returns-2 c =
-    let a = c .before .before .before .before .args in
-    sym (c .before .loop .inv .1 ∙ open-end (a .n) (a .m) (a .grid .now) (a .p) (a .d) (c .before .loop .k) (omega arith))
+    let a = c .before .before .before .before .before .before .args in
+    let s = start-of (c .before .before) ∙ ap not (c .before .if1 .left) in
+    c .is-free .ensures ∙ sym (ap (λ (b : Bool). b && is-free (a .n) (a .m) (a .grid .now) (a .p) (a .d)) s)
 
 pub is-open-spec : {M : Type 1} → statement M
 is-open-spec =
     tie.close
     (tie.spec
-    Inv-loop
-    μ-loop
-    length-of-requires
-    loop-holds
-    step-ahead-requires
-    shared-slice-read-is-faulty
-    is-faulty-requires
+    shared-slice-read-is-dead
+    is-dead-requires
+    is-from-rim-requires
     returns
-    add-k
-    loop-less
-    loop-again
+    is-free-requires
     returns-2)

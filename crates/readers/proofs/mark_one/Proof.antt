@@ -39,18 +39,21 @@ left-to-order c =
     let d = e .before .before .before in
     let a = d .before .before .before .args in
     marked-in-order (a .kind) (a .n) (a .m) (a .at) (a .before) (a .x) (a .y) (a .v) (a .next) (now (a .b))
-    (sym (d .before .may-stand .ensures) ∙ stands d) (sym (e .before .is-recorded .ensures _) ∙ e .if2 .left) (fits c)
+    (sym (d .before .may-stand .ensures) ∙ stands d) (sym (e .before .is-repeated .ensures) ∙ e .if2 .left) (fits c)
 
 may-stand-requires : tie.Need-may-stand-requires
 may-stand-requires c κs = search needs
+
+off-number-requires : tie.Need-off-number-requires
+off-number-requires c κs = search needs
 
 no-record-requires : tie.Need-no-record-requires
 no-record-requires c κs = search needs
 
 returns : tie.Need-returns
 returns c =
-    rw (c .no-record .ensures)
-    (sym (cond-left _ _ (c .before .before .may-stand .ensures) (not-true _ (c .before .if1 .taken))))
+    rw (c .no-record .ensures, c .before .off-number .ensures)
+    (sym (cond-left _ _ (c .before .before .before .may-stand .ensures) (not-true _ (c .before .before .if1 .taken))))
 
 mul-p : tie.Need-mul-p
 mul-p c =
@@ -60,12 +63,12 @@ add-p : tie.Need-add-p
 add-p c =
     let w = placed c in omega arith
 
-slice-read-is-recorded : tie.Need-slice-read-is-recorded
-slice-read-is-recorded c =
+slice-read-is-repeated : tie.Need-slice-read-is-repeated
+slice-read-is-repeated c =
     let w = placed (c .before) in omega arith
 
-is-recorded-requires : tie.Need-is-recorded-requires
-is-recorded-requires c κs = search needs
+is-repeated-requires : tie.Need-is-repeated-requires
+is-repeated-requires c κs = search needs
 
 no-record-requires-2 : tie.Need-no-record-requires-2
 no-record-requires-2 c κs = search needs
@@ -76,7 +79,7 @@ returns-2 c =
     rw (c .no-record2 .ensures)
     (sym
     (cond-taken _ _ (d .before .may-stand .ensures) (stands d)
-    ∙ cond-taken _ _ (c .before .before .is-recorded .ensures _) (c .before .if2 .taken)))
+    ∙ cond-taken _ _ (c .before .before .is-repeated .ensures) (c .before .if2 .taken)))
 
 may-write-requires : tie.Need-may-write-requires
 may-write-requires c κs = search needs
@@ -91,7 +94,7 @@ returns-3 c =
     rw (c .no-record3 .ensures)
     (sym
     (cond-taken _ _ (d .before .may-stand .ensures) (stands d)
-    ∙ cond-left _ _ (e .before .is-recorded .ensures _) (e .if2 .left)
+    ∙ cond-left _ _ (e .before .is-repeated .ensures) (e .if2 .left)
     ∙ cond-left _ _ (c .before .before .may-write .ensures) (not-true _ (c .before .if3 .taken))))
 
 no-record-requires-4 : tie.Need-no-record-requires-4
@@ -121,12 +124,13 @@ mark-one-spec =
     tie.close
     (tie.spec
     may-stand-requires
+    off-number-requires
     no-record-requires
     returns
     mul-p
     add-p
-    slice-read-is-recorded
-    is-recorded-requires
+    slice-read-is-repeated
+    is-repeated-requires
     no-record-requires-2
     returns-2
     may-write-requires

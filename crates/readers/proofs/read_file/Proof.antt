@@ -7,6 +7,7 @@ use Rattle.formats.specs.declared.Number.the-variants.{Read}
 use Rattle.formats.proofs.Answers.{number-kept}
 use Rattle.readers.proofs.Cases.{size-bound, file-short, no-rows, no-columns, no-count, head-read}
 use borrow.Author.Needs.{needs}
+use native.Mathlib.Omega.{arith}
 use Rattle.readers.proofs.read_file.Statement.{statement}
 use Rattle.readers.proofs.read_file.Tie as tie
 
@@ -102,7 +103,7 @@ read-body-requires : tie.Need-read-body-requires
 read-body-requires c κs =
     let b = c .before .before .before .before .before .before in
     let a = b .before .before .before .before in
-    (size-bound _ _ _ _ (rows-are a), size-bound _ _ _ _ (columns-are b), a .before .before .before .if1 .left)
+    (size-bound _ _ _ _ (rows-are a), size-bound _ _ _ _ (columns-are b), omega arith, a .before .before .before .if1 .left)
 
 same-length : tie.Need-same-length
 same-length c = search needs

@@ -8,10 +8,10 @@ use Rattle.crosscheck.proofs.random.fill_map.Statement.{statement}
 use Rattle.crosscheck.proofs.random.fill_map.Tie as tie
 
 abbrev Inv-loop : tie.InvT-loop
-Inv-loop seed₀ n m grid₀ kind x y count counter₀ seed grid counter = length grid ≡ length grid₀
+Inv-loop seed₀ n m grid₀ kind x y count share counter₀ seed grid counter = length grid ≡ length grid₀
 
 abbrev μ-loop : tie.MeasureT-loop
-μ-loop seed₀ n m grid₀ kind x y count counter₀ seed grid counter = count - counter
+μ-loop seed₀ n m grid₀ kind x y count share counter₀ seed grid counter = count - counter
 
 fill-blank-requires : tie.Need-fill-blank-requires Inv-loop μ-loop
 fill-blank-requires c κs = search needs
@@ -27,6 +27,9 @@ draw-inner-requires-2 c κs = search needs
 
 draw-count-requires : tie.Need-draw-count-requires Inv-loop μ-loop
 draw-count-requires c κs = search needs
+
+draw-share-requires : tie.Need-draw-share-requires Inv-loop μ-loop
+draw-share-requires c κs = search needs
 
 loop-holds : tie.Need-loop-holds Inv-loop μ-loop
 loop-holds c = search needs
@@ -60,6 +63,7 @@ fill-map-spec =
     draw-inner-requires
     draw-inner-requires-2
     draw-count-requires
+    draw-share-requires
     loop-holds
     add-fault-requires
     add-counter

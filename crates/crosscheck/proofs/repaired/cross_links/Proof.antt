@@ -8,16 +8,16 @@ use Rattle.crosscheck.proofs.repaired.cross_links.Statement.{statement}
 use Rattle.crosscheck.proofs.repaired.cross_links.Tie as tie
 
 abbrev Inv-loop : tie.InvT-loop
-Inv-loop n m grid directions across down places marks₀ tally₀ k₀ marks tally k = (length marks ≡ length marks₀) × (length tally ≡ length tally₀)
+Inv-loop beside n m grid directions across down places marks₀ tally₀ k₀ marks tally k = (length marks ≡ length marks₀) × (length tally ≡ length tally₀)
 
 abbrev μ-loop : tie.MeasureT-loop
-μ-loop n m grid directions across down places marks₀ tally₀ k₀ marks tally k = 2048 - k
+μ-loop beside n m grid directions across down places marks₀ tally₀ k₀ marks tally k = 2048 - k
 
 loop-holds : tie.Need-loop-holds Inv-loop μ-loop
 loop-holds c = search needs
 
-cross-link-requires : tie.Need-cross-link-requires Inv-loop μ-loop
-cross-link-requires c κs = search needs
+cross-side-requires : tie.Need-cross-side-requires Inv-loop μ-loop
+cross-side-requires c κs = search needs
 
 add-k : tie.Need-add-k Inv-loop μ-loop
 add-k c = search needs
@@ -44,7 +44,7 @@ cross-links-spec =
     Inv-loop
     μ-loop
     loop-holds
-    cross-link-requires
+    cross-side-requires
     add-k
     loop-less
     loop-again

@@ -5,19 +5,19 @@ use Rattle.draw.proofs.links.link.Statement.{statement}
 use Rattle.draw.proofs.links.link.Tie as tie
 
 abbrev Inv-loop : tie.InvT-loop
-Inv-loop directions across down from heading w₀ left₀ w left = Unit {0}
+Inv-loop grid directions across down from heading w₀ left₀ w left = Unit {0}
 
 abbrev μ-loop : tie.MeasureT-loop
-μ-loop directions across down from heading w₀ left₀ w left = left
+μ-loop grid directions across down from heading w₀ left₀ w left = left
 
 port-requires : tie.Need-port-requires Inv-loop μ-loop
 port-requires c κs = search needs
 
-mul-t10 : tie.Need-mul-t10 Inv-loop μ-loop
-mul-t10 c = search needs
+mul-t11 : tie.Need-mul-t11 Inv-loop μ-loop
+mul-t11 c = search needs
 
-mul-t12 : tie.Need-mul-t12 Inv-loop μ-loop
-mul-t12 c = search needs
+mul-t13 : tie.Need-mul-t13 Inv-loop μ-loop
+mul-t13 c = search needs
 
 loop-holds : tie.Need-loop-holds Inv-loop μ-loop
 loop-holds c = search needs
@@ -44,8 +44,8 @@ link-spec =
     Inv-loop
     μ-loop
     port-requires
-    mul-t10
-    mul-t12
+    mul-t11
+    mul-t13
     loop-holds
     advance-requires
     sub-left

@@ -17,9 +17,6 @@ loop-holds c = search needs
 byte-requires : tie.Need-byte-requires Inv-loop μ-loop
 byte-requires c κs = search needs
 
-byte-requires-2 : tie.Need-byte-requires-2 Inv-loop μ-loop
-byte-requires-2 c κs = search needs
-
 is-misplaced-requires : tie.Need-is-misplaced-requires Inv-loop μ-loop
 is-misplaced-requires c κs = search needs
 
@@ -52,7 +49,6 @@ find-misplaced-spec =
     μ-loop
     loop-holds
     byte-requires
-    byte-requires-2
     is-misplaced-requires
     report-requires
     returns

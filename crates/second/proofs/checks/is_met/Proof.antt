@@ -1,9 +1,9 @@
--- `second::checks::is_blocked` is safe and ends.
+-- `second::checks::is_met` is safe and ends.
 -- Assumes nothing.
 use Prim.Native.Nat.{_-_}
 use borrow.Author.Needs.{needs}
-use Rattle.second.proofs.checks.is_blocked.Statement.{statement}
-use Rattle.second.proofs.checks.is_blocked.Tie as tie
+use Rattle.second.proofs.checks.is_met.Statement.{statement}
+use Rattle.second.proofs.checks.is_met.Tie as tie
 
 abbrev Inv-loop : tie.InvT-loop
 Inv-loop n m grid p d q₀ counter₀ q counter = Unit {0}
@@ -23,8 +23,8 @@ returns c = search needs
 ahead-requires : tie.Need-ahead-requires Inv-loop μ-loop
 ahead-requires c κs = search needs
 
-byte-requires : tie.Need-byte-requires Inv-loop μ-loop
-byte-requires c κs = search needs
+is-fault-requires : tie.Need-is-fault-requires Inv-loop μ-loop
+is-fault-requires c κs = search needs
 
 returns-2 : tie.Need-returns-2 Inv-loop μ-loop
 returns-2 c = search needs
@@ -41,8 +41,8 @@ loop-again c = search needs
 returns-3 : tie.Need-returns-3 Inv-loop μ-loop
 returns-3 c = search needs
 
-pub is-blocked-spec : {M : Type 1} → statement M
-is-blocked-spec =
+pub is-met-spec : {M : Type 1} → statement M
+is-met-spec =
     tie.close
     (tie.spec
     Inv-loop
@@ -51,7 +51,7 @@ is-blocked-spec =
     is-inner-requires
     returns
     ahead-requires
-    byte-requires
+    is-fault-requires
     returns-2
     add-counter
     loop-less

@@ -1,15 +1,15 @@
--- `crosscheck::counts::print_faults` is safe and ends.
+-- `crosscheck::counts::print_marked` is safe and ends.
 -- Assumes nothing.
 use Prim.Native.Nat.{_-_}
 use borrow.Author.Needs.{needs}
-use Rattle.crosscheck.proofs.counts.print_faults.Statement.{statement}
-use Rattle.crosscheck.proofs.counts.print_faults.Tie as tie
+use Rattle.crosscheck.proofs.counts.print_marked.Statement.{statement}
+use Rattle.crosscheck.proofs.counts.print_marked.Tie as tie
 
 abbrev Inv-loop : tie.InvT-loop
-Inv-loop grid p₀ p = Unit {0}
+Inv-loop grid mark p₀ p = Unit {0}
 
 abbrev μ-loop : tie.MeasureT-loop
-μ-loop grid p₀ p = 1024 - p
+μ-loop grid mark p₀ p = 1024 - p
 
 loop-holds : tie.Need-loop-holds Inv-loop μ-loop
 loop-holds c = search needs
@@ -35,8 +35,8 @@ loop-again c = search needs
 returns : tie.Need-returns Inv-loop μ-loop
 returns c = search needs
 
-pub print-faults-spec : {M : Type 1} → statement M
-print-faults-spec =
+pub print-marked-spec : {M : Type 1} → statement M
+print-marked-spec =
     tie.close
     (tie.spec
     Inv-loop
