@@ -62,14 +62,14 @@ meaning() {
         2) echo "a buffer does not have 1,024 elements" ;;
         3) echo "$here: a mark that cannot stand there" ;;
         4) echo "$here: a direction that cannot stand there, or none where a path must start" ;;
-        5) echo "$here: the path from there runs over another fault or ends on a faulty spare" ;;
+        5) echo "$here: the path from there runs over another fault, ends on a faulty spare, or is none that a dead processor may have" ;;
         6) echo "$both: the paths from there share a processor" ;;
         7) echo "$both: the paths from there are a near-miss" ;;
         8) echo "byte $2: the file ends early" ;;
         9) echo "byte $2: a number is longer than two bytes or not in its shortest form" ;;
         10) echo "byte $2: a fault is where no processor is, or a path starts where none may" ;;
         11) echo "byte $2: a place is listed a second time" ;;
-        12) echo "byte $2: bytes follow the last record" ;;
+        12) echo "byte $2: bytes follow the last record, or the number of dead processors is 0" ;;
         13) echo "byte $2: a direction is not 1 to 4" ;;
         14) echo "what is to be written needs room for $2 bytes" ;;
         15) echo "there is no such cell or no such side" ;;
@@ -77,6 +77,7 @@ meaning() {
         17) echo "$here: the track ends there" ;;
         18) echo "$here: the link would enter a fourth switch there" ;;
         19) echo "byte $2: a place is out of row order (from the top row down, each row from the left)" ;;
+        20) echo "byte $2: a dead processor is not inside the array" ;;
         *) echo "place $2: a reason that this script does not know" ;;
     esac
 }

@@ -31,18 +31,23 @@
  * inside; the others are the spares. Cell [i, j] belongs at row i, column j. The position of a row and a column is the number
  * 32 * row + column. Positions in ascending order are called row order.
  *
+ * A faulty processor inside the array can be made to conduct, unless it is dead. A dead processor conducts nothing; in all else it is faulty
+ * like any other.
+ *
  * A path (a compensation path, in the paper of Kung, Jean and Chang) runs straight from a faulty processor inside the array to the spare at
- * the end of its row or column. Every cell on it moves one processor along it. A plan gives each of these faults a path so that no path runs
- * over another fault or ends on a faulty spare, no two paths share a processor, and no two are a near-miss. A near-miss: a path south and a
- * path north in adjacent columns where the one that goes south starts above the other, or a path east and a path west in adjacent rows where
- * the one that goes east starts left of the other.
+ * the end of its row or column. Every cell on it moves one processor along it. A path is open where it runs over no other fault and ends on
+ * a healthy spare. From a dead processor only these paths can be open: south from row 1, north from row N, east from column 1, west from
+ * column M. Then no link to a neighbour needs to run through that processor. A plan gives each fault inside the array an open path so that no
+ * two paths share a processor and no two are a near-miss. A near-miss: a path south and a path north in adjacent columns where the one that
+ * goes south starts above the other, or a path east and a path west in adjacent rows where the one that goes east starts left of the other.
  *
  *
  * BUFFERS
  *
  * Each buffer other than the bytes of a file and a list of faults has 1,024 elements, neither more nor fewer, and is indexed by position:
  *
- *     grid        uint8_t    CHANTSPRUCE_HEALTHY or CHANTSPRUCE_FAULTY at a processor, CHANTSPRUCE_NO_PROCESSOR everywhere else
+ *     grid        uint8_t    CHANTSPRUCE_HEALTHY or CHANTSPRUCE_FAULTY at a processor, or CHANTSPRUCE_DEAD at one inside the array;
+ *                            CHANTSPRUCE_NO_PROCESSOR everywhere else
  *     directions  uint8_t    CHANTSPRUCE_SOUTH, _NORTH, _EAST or _WEST at each faulty processor inside the array, 0 everywhere else
  *     places      uint16_t   at the position of cell [i, j]: the position of the processor that holds it; 0 everywhere else
  *     across      uint8_t    the letter of the across switch at that position; 0 where there is none
@@ -59,23 +64,25 @@
  *     c         W-S and E-N         N-E and S-W
  *     d         W-N and E-S         N-W and S-E
  *
- * A fault inside the array joins its own N and S where its path goes south or north, its own W and E where it goes east or west. Every
- * other processor ends the links that enter it.
+ * A fault inside the array that is not dead joins its own N and S where its path goes south or north, its own W and E where it goes east or
+ * west. Every other processor joins nothing: a link that enters a healthy one arrives there, and at a faulty spare or a dead processor the track
+ * ends.
  *
  *
  * FILES
  *
  * A number below 128 is one byte. One from 128 to 16,383 is two bytes: 128 + its low seven bits, then the other bits, which are not 0.
- * A map file: N, M, the number of faults, spares among them, then for each fault its row and its column.
+ * A map file: N, M, the number of faults that are not dead, spares among them, then for each its row and its column. Where there are dead
+ * processors it goes on with their number and the row and the column of each; else it ends there.
  * A plan file: N, M, the number of paths, then for each path the row and the column of its start and its direction (1 to 4).
- * Faults and paths are in row order. Each map and each plan has one file: what the library reads without a refusal is byte for byte what it
+ * Each list is in row order by itself. Each map and each plan has one file: what the library reads without a refusal is byte for byte what it
  * writes of it again.
  *
  *
  * RESULTS
  *
  * Each result begins with `number`, `place` and `second`. An accepted call has number CHANTSPRUCE_ACCEPTED, which is 0, and 0 in both places;
- * its values follow. A refused call has one of the numbers 1 to 19 below and 0 in every value, and has written to no buffer. Tests are
+ * its values follow. A refused call has one of the numbers 1 to 20 below and 0 in every value, and has written to no buffer. Tests are
  * made in a fixed order, which each function states, and the first that fails is returned.
  *
  *
@@ -107,7 +114,7 @@ extern "C" {
 
 #define CHANTSPRUCE_BUFFER 1024        /* elements of every buffer that is indexed by position */
 #define CHANTSPRUCE_MAX_SIZE 30        /* the largest N, and the largest M */
-#define CHANTSPRUCE_MAP_ROOM 2044      /* bytes of the longest map file */
+#define CHANTSPRUCE_MAP_ROOM 2046      /* bytes of the longest map file */
 #define CHANTSPRUCE_PLAN_ROOM 2704     /* bytes of the longest plan file */
 #define CHANTSPRUCE_LISTING_ROOM 32768 /* bytes that are room for every listing */
 #define CHANTSPRUCE_STACK 65536        /* bytes of stack that are enough for every call */
@@ -121,7 +128,8 @@ extern "C" {
 enum {
     CHANTSPRUCE_HEALTHY = 0,
     CHANTSPRUCE_FAULTY = 1,
-    CHANTSPRUCE_NO_PROCESSOR = 2
+    CHANTSPRUCE_NO_PROCESSOR = 2,
+    CHANTSPRUCE_DEAD = 3 /* faulty, and conducts nothing */
 };
 
 enum {
@@ -177,13 +185,15 @@ enum {
     CHANTSPRUCE_WRONG_SIZE = 1,
     /* A buffer that is indexed by position is not 1,024 elements long. */
     CHANTSPRUCE_WRONG_LENGTH = 2,
-    /* The grid has a mark that cannot stand there: neither 0 nor 1 at a processor, or not 2 elsewhere. Place: the lowest such position. */
+    /* The grid has a mark that cannot stand there: not 0, 1 or 3 inside the array, neither 0 nor 1 at a spare, or not 2 elsewhere. Place: the
+       lowest such position. */
     CHANTSPRUCE_WRONG_MARK = 3,
     /* A direction is above 4, or is 0 at a fault inside the array, or is not 0 elsewhere. Place: the lowest such position. In
        chantspruce_write_plan, which takes no grid: above 4, or not 0 at a position that is not inside. In chantspruce_check_fault_list: the
        list is not the faults inside the array in row order, each with a direction of 1 to 4; its comment has the place. */
     CHANTSPRUCE_WRONG_DIRECTION = 4,
-    /* A path runs over another fault or ends on a faulty spare. Place: where the path starts, the lowest of these. */
+    /* A path is not open: it runs over another fault, ends on a faulty spare, or starts at a dead processor without being one of the four kinds
+       that such a processor may have. Place: where the path starts, the lowest of these. */
     CHANTSPRUCE_PATH_CLOSED = 5,
     /* Two paths share a processor. Place and second: where they start. */
     CHANTSPRUCE_PATHS_MEET = 6,
@@ -193,11 +203,12 @@ enum {
     CHANTSPRUCE_FILE_CUT = 8,
     /* A number of two bytes whose second byte is 0 or above 127. Place: the offset of the number. */
     CHANTSPRUCE_WRONG_NUMBER = 9,
-    /* A fault is at no processor, or a path starts at a position that is not inside. Place: the offset of the record's row. */
+    /* A fault of a map's first list is at no processor, or a path starts at a position that is not inside. Place: the offset of the record's
+       row. */
     CHANTSPRUCE_WRONG_POSITION = 10,
-    /* A record has the position of an earlier one. Place: the offset of the later record's row. */
+    /* A record has the position of an earlier one, in the same list or in the other. Place: the offset of the later record's row. */
     CHANTSPRUCE_REPEATED = 11,
-    /* Bytes follow the last record. Place: the offset of the first of them. */
+    /* Bytes follow the last record. A number of dead processors that is 0 counts as such. Place: the offset of the first of them. */
     CHANTSPRUCE_FILE_GOES_ON = 12,
     /* The direction of a path in a file is not 1 to 4. Place: the offset of the record's row. */
     CHANTSPRUCE_WRONG_FILE_DIRECTION = 13,
@@ -208,13 +219,15 @@ enum {
     /* A switch buffer has a byte that cannot stand there: not a to d at a switch, or not 0 elsewhere. Place: the lowest such position in
        either buffer. */
     CHANTSPRUCE_WRONG_LETTER = 16,
-    /* The track ends: at a port that is not joined, where there is no switch, or at a faulty spare. Place: the last switch that the link
-       entered, or the processor of the cell where it entered none. */
+    /* The track ends: at a port that is not joined, where there is no switch, at a faulty spare or at a dead processor. Place: the last switch
+       that the link entered, or the processor of the cell where it entered none. */
     CHANTSPRUCE_TRACK_ENDS = 17,
     /* The link would enter a fourth switch. Place: that switch. */
     CHANTSPRUCE_FOURTH_SWITCH = 18,
-    /* A record of a file has a lower position than the record before it. Place: the offset of the record's row. */
-    CHANTSPRUCE_WRONG_ORDER = 19
+    /* A record of a file has a lower position than the record before it in its list. Place: the offset of the record's row. */
+    CHANTSPRUCE_WRONG_ORDER = 19,
+    /* A dead processor of a map file is at a position that is not inside. Place: the offset of the record's row. */
+    CHANTSPRUCE_WRONG_DEAD_POSITION = 20
 };
 
 /* A FAULT OF A LIST */
@@ -269,7 +282,7 @@ typedef struct chantspruce_head {
     size_t second;
     size_t rows;    /* N */
     size_t columns; /* M */
-    size_t count;   /* of faults, spares among them, or of paths */
+    size_t count;   /* of faults, spares and dead processors among them, or of paths */
 } chantspruce_head;
 
 /* Of the file writers and of the listing. */
@@ -355,7 +368,7 @@ chantspruce_number chantspruce_read_number(const uint8_t *file, size_t file_leng
 
 /* Reads a map file and writes its grid.
  * Refuses 2, then what comes first in the file: 1 at N and M, 8 and 9 at every number; 10, 11, 19 in this order at each record, when all its
- * numbers are read; 12 at the end. */
+ * numbers are read, and 20 instead of 10 in the list of dead processors; 12 at a number of dead processors that is 0 and at the end. */
 chantspruce_head chantspruce_read_map(const uint8_t *file, size_t file_length,
                                       uint8_t *grid, size_t grid_length);
 
@@ -381,7 +394,7 @@ chantspruce_length chantspruce_write_plan(size_t rows, size_t columns,
 
 /* Writes the listing of a map file, as lines of ASCII text without a 0 at the end, to `out`, which has room for `out_length` bytes, and keeps
  * the bytes after it. CHANTSPRUCE_LISTING_ROOM is always enough. The planner's limit is 1,000,000 trials. The lines are
- *     map N M faults
+ *     map N M faults                      all faults, spares and dead processors among them
  *     repaired trials | beyond trials | spent limit
  *     path row column letter              of each fault inside the array, in row order; the letter is S, N, E or W
  *     cell i j row column                 of each cell, with the processor that holds it

@@ -32,7 +32,7 @@ use core::fmt;
 pub const BUFFER: usize = 1024;
 
 /// Room for every map file.
-pub const MAP_ROOM: usize = 2044;
+pub const MAP_ROOM: usize = 2046;
 
 /// Room for every plan file.
 pub const PLAN_ROOM: usize = 2704;
@@ -44,10 +44,12 @@ pub const LISTING_ROOM: usize = 32768;
 pub mod mark {
     /// A healthy processor.
     pub const HEALTHY: u8 = 0;
-    /// A faulty processor.
+    /// A faulty processor, which conducts if it is inside the array.
     pub const FAULTY: u8 = 1;
     /// No processor: the corners, and all positions outside the array.
     pub const NONE: u8 = 2;
+    /// A dead processor: a faulty one inside the array that conducts nothing.
+    pub const DEAD: u8 = 3;
 }
 
 /// The bytes of a direction buffer.
@@ -83,7 +85,7 @@ pub enum Reason {
     Mark = 3,
     /// A direction byte does not fit its position.
     Direction = 4,
-    /// There is another fault on a path.
+    /// There is another fault on a path, or it starts at a dead processor that a link would run through.
     NotOpen = 5,
     /// Two paths have a processor in common.
     Meeting = 6,
@@ -97,7 +99,7 @@ pub enum Reason {
     RecordPlace = 10,
     /// A record names the place of an earlier one.
     Repeated = 11,
-    /// The file goes on after its last record.
+    /// The file goes on after its last record, or its second count is 0.
     Trailing = 12,
     /// A record of a plan file has no direction from 1 to 4.
     RecordDirection = 13,
@@ -111,14 +113,16 @@ pub enum Reason {
     TrackEnds = 17,
     /// The link leads to a fourth switch.
     FourthSwitch = 18,
-    /// A record of a file has a lower position than the record before it.
+    /// A record of a file has a lower position than the record before it in its list.
     RecordOrder = 19,
+    /// A record names a place for a dead processor that is not inside the array, such as a spare's.
+    DeadPlace = 20,
     /// An answer that the interface does not have. The library gives none.
     Unknown = 0,
 }
 
 /// The reasons in the order of their numbers, which begin with 1.
-const REASONS: [Reason; 19] = [
+const REASONS: [Reason; 20] = [
     Reason::Size,
     Reason::BufferLength,
     Reason::Mark,
@@ -138,6 +142,7 @@ const REASONS: [Reason; 19] = [
     Reason::TrackEnds,
     Reason::FourthSwitch,
     Reason::RecordOrder,
+    Reason::DeadPlace,
 ];
 
 impl Reason {
@@ -146,7 +151,7 @@ impl Reason {
         REASONS.get(index).copied().unwrap_or(Reason::Unknown)
     }
 
-    /// The number of the refusal, 1 to 19; 0 for [`Reason::Unknown`].
+    /// The number of the refusal, 1 to 20; 0 for [`Reason::Unknown`].
     pub fn number(self) -> u32 {
         self as u32
     }
@@ -231,14 +236,14 @@ pub struct Number {
     pub next: usize,
 }
 
-/// The first three numbers of a file.
+/// Size and count of a file.
 #[derive(Clone, Copy, Debug, PartialEq, Eq)]
 pub struct Head {
     /// The array's rows of cells.
     pub rows: usize,
     /// The array's columns of cells.
     pub columns: usize,
-    /// The number of records.
+    /// The number of records; of a map file in both lists.
     pub count: usize,
 }
 
@@ -314,8 +319,8 @@ pub fn read_number(file: &[u8], at: usize) -> Result<Number, Refusal> {
     flat::read_number(file, at).answer()
 }
 
-/// Reads a map file and fills `grid`. A file that is read is byte for byte what [`write_map`] writes of it again. Refusals: 1, 2, 8 to 12
-/// and 19.
+/// Reads a map file and fills `grid`. A file that is read is byte for byte what [`write_map`] writes of it again. Refusals: 1, 2, 8 to 12,
+/// 19 and 20.
 pub fn read_map(file: &[u8], grid: &mut [u8]) -> Result<Head, Refusal> {
     flat::read_map(file, grid).answer()
 }

@@ -17,6 +17,10 @@ static const uint8_t plan_file[] = {2, 2, 1, 1, 1, CHANTSPRUCE_SOUTH};
 static const uint8_t wrong_plan_file[] = {2, 2, 1, 1, 1, 5};
 static const uint8_t unordered_plan_file[] = {2, 2, 2, 2, 1, CHANTSPRUCE_SOUTH, 1, 1, CHANTSPRUCE_NORTH};
 
+/* 2 x 2 cells with a dead processor at row 2, column 2, and a file that has one at a spare */
+static const uint8_t dead_map_file[] = {2, 2, 0, 1, 2, 2};
+static const uint8_t dead_spare_file[] = {2, 2, 0, 1, 3, 2};
+
 static void print_first(const char *call, uint32_t number, size_t place, size_t second)
 {
     printf("%s: number %u, place %zu, second %zu", call, (unsigned)number, place, second);
@@ -38,6 +42,12 @@ static void print_run(chantspruce_plan a)
 {
     print_first("repair_run", a.number, a.place, a.second);
     printf(", outcome %u, count %u, links %zu\n", (unsigned)a.outcome, (unsigned)a.count, a.links);
+}
+
+static void print_link(chantspruce_link a)
+{
+    print_first("follow_link", a.number, a.place, a.second);
+    printf(", position %zu, port %u, switches %u\n", a.position, (unsigned)a.port, (unsigned)a.switches);
 }
 
 /* Prints a result and the bytes that it tells of. */
@@ -91,12 +101,32 @@ static void call_checks(void)
     puts("");
 }
 
+/* A dead processor: its path goes north from row N, and a link that enters it ends there. */
+static void call_dead(void)
+{
+    const size_t dead = CHANTSPRUCE_POSITION(2, 2);
+    print_head("read_map", chantspruce_read_map(dead_spare_file, sizeof dead_spare_file, grid, B));
+    print_head("read_map", chantspruce_read_map(dead_map_file, sizeof dead_map_file, grid, B));
+    print_bytes("write_map", chantspruce_write_map(2, 2, grid, B, out, sizeof out));
+    print_run(chantspruce_repair_run(2, 2, grid, B, 1000, directions, B, places, B, across, B, down, B));
+    printf("the path of the dead processor has direction %u\n", (unsigned)directions[dead]);
+    print_link(chantspruce_follow_link(2, 2, grid, B, directions, B, across, B, down, B, dead, CHANTSPRUCE_SIDE_SOUTH));
+    grid[dead] = CHANTSPRUCE_FAULTY;
+    print_link(chantspruce_follow_link(2, 2, grid, B, directions, B, across, B, down, B, dead, CHANTSPRUCE_SIDE_SOUTH));
+    grid[dead] = CHANTSPRUCE_DEAD;
+    directions[dead] = CHANTSPRUCE_SOUTH;
+    chantspruce_verdict checked = chantspruce_check_plan(2, 2, grid, B, directions, B);
+    print_first("check_plan", checked.number, checked.place, checked.second);
+    puts("");
+}
+
 int main(void)
 {
     call_readers();
     call_writers();
     call_run();
     call_checks();
+    call_dead();
     chantspruce_length listing = chantspruce_report(map_file, sizeof map_file, out, sizeof out);
     print_first("report", listing.number, listing.place, listing.second);
     printf(", length %zu\n%.*s", listing.length, (int)listing.length, (const char *)out);

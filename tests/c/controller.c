@@ -43,6 +43,7 @@ static const char *reason(uint32_t number)
         "the track ends",
         "a fourth switch",
         "a record is out of row order",
+        "a dead processor that is not inside the array",
     };
     return number < sizeof reasons / sizeof reasons[0] ? reasons[number] : "an unknown number";
 }
@@ -58,11 +59,14 @@ static int broken(const char *call, uint32_t number, size_t place)
 
 static char processor(const wafer *w, size_t position)
 {
-    static const char arrows[] = {'?', 'v', '^', '>', '<'};
+    static const char arrows[] = {'x', 'v', '^', '>', '<'};
+    static const char letters[] = {'?', 'S', 'N', 'E', 'W'};
     if (w->grid[position] == CHANTSPRUCE_NO_PROCESSOR)
         return ' ';
     if (w->grid[position] == CHANTSPRUCE_FAULTY)
-        return w->directions[position] == CHANTSPRUCE_NO_PATH ? 'x' : arrows[w->directions[position]];
+        return arrows[w->directions[position]];
+    if (w->grid[position] == CHANTSPRUCE_DEAD)
+        return letters[w->directions[position]];
     for (size_t cell = 0; cell < B; cell++)
         if (w->places[cell] == position)
             return 'o';
@@ -114,7 +118,7 @@ static void print_between(const wafer *w, size_t row)
 
 static void print_picture(const wafer *w)
 {
-    puts("o holds a cell, . is a free spare, x a faulty one, v ^ > < a fault with its path; the letters are switches");
+    puts("o holds a cell, . is a free spare, x a faulty one, v ^ > < a fault with its path, S N E W a dead one; small letters are switches");
     for (size_t row = 0; row <= w->rows + 1; row++) {
         print_row(w, row);
         if (row <= w->rows)

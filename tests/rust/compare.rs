@@ -123,7 +123,8 @@ fn compare(operation: &Operation) -> Result<Tally, String> {
             return Err(format!("call {index}: {found}\nwith {before:?}"));
         }
         let kind = (operation.kind)(&expected, &after);
-        *tally.answers.entry(kind).or_default() += 1;
+        let dead = if (operation.dead)(operation, kind, &before) { operations::DEAD } else { 0 };
+        *tally.answers.entry(dead + kind).or_default() += 1;
         let accepted = expected.number == 0 && kind != operations::REFUSED_MAP;
         tally.largest += usize::from(accepted && before.n == 30 && before.m == 30);
     }
@@ -146,7 +147,7 @@ fn print(operation: &Operation, tally: &Tally) {
     let total: usize = tally.answers.values().sum();
     println!("{}: {total} calls, {} of the accepted ones 30 x 30", operation.name, tally.largest);
     for (&kind, count) in &tally.answers {
-        println!("    {:<16} {count:>8}", operations::kind_name(kind));
+        println!("    {:<20} {count:>8}", operations::kind_name(kind));
     }
 }
 

@@ -2,7 +2,9 @@
 
 use chantspruce::Fault;
 
-use crate::reference::{self, Array, Cell, DIRECTIONS, LENGTH, Outcome, Path, position};
+use crate::reference::{
+    self, Array, Cell, DEAD, DIRECTIONS, Direction, FAULTY, HEALTHY, LENGTH, NO_PROCESSOR, Outcome, Path, is_faulty, position,
+};
 
 /// The arguments of a call. An operation uses some of them; buffers that it does not use are empty.
 #[derive(Clone, Debug, Default)]
@@ -30,30 +32,35 @@ const BAD_SIZES: [usize; 8] = [0, 31, 32, 255, 257, 1 << 32, (1 << 32) + 1, usiz
 const BAD_LENGTHS: [usize; 6] = [0, 1, 32, 1023, 1025, 2048];
 
 /// Trials after which the planner is not asked further, where a case needs to know them.
-const ENOUGH: u32 = 2000;
+pub const ENOUGH: u32 = 2000;
 
 /// One way to damage a case.
 type Damage = fn(&mut Maker, &mut Case);
 
-const MAP_DAMAGES: [Damage; 5] = [Maker::bad_size, Maker::other_size, Maker::bad_length, Maker::bad_mark, Maker::turn_health];
+const MAP_DAMAGES: [Damage; 6] =
+    [Maker::bad_size, Maker::other_size, Maker::bad_length, Maker::bad_mark, Maker::dead_outside, Maker::turn_health];
 
-const PLAN_DAMAGES: [Damage; 8] = [
+const PLAN_DAMAGES: [Damage; 10] = [
     Maker::bad_size,
     Maker::other_size,
     Maker::bad_length,
     Maker::bad_mark,
+    Maker::dead_outside,
     Maker::turn_health,
+    Maker::dead_fault,
     Maker::bad_direction,
     Maker::lost_direction,
     Maker::turn_direction,
 ];
 
-const LIST_DAMAGES: [Damage; 10] = [
+const LIST_DAMAGES: [Damage; 12] = [
     Maker::bad_size,
     Maker::other_size,
     Maker::bad_length,
     Maker::bad_mark,
+    Maker::dead_outside,
     Maker::turn_health,
+    Maker::dead_fault,
     Maker::lost_fault,
     Maker::more_faults,
     Maker::swapped_faults,
@@ -128,12 +135,12 @@ impl Maker {
 
     /// A case with a map that has no fault.
     fn healthy(&mut self, array: Array) -> Case {
-        let mut grid = vec![2; LENGTH];
+        let mut grid = vec![NO_PROCESSOR; LENGTH];
         for row in 1..=array.rows {
-            grid[32 * row..32 * row + array.columns + 2].fill(0);
+            grid[32 * row..32 * row + array.columns + 2].fill(HEALTHY);
         }
         for row in [0, array.rows + 1] {
-            grid[32 * row + 1..32 * row + array.columns + 1].fill(0);
+            grid[32 * row + 1..32 * row + array.columns + 1].fill(HEALTHY);
         }
         Case { n: array.rows, m: array.columns, grid, ..Case::default() }
     }
@@ -147,34 +154,72 @@ impl Maker {
         self.pick(&[(0, y), (array.rows + 1, y), (x, 0), (x, array.columns + 1)])
     }
 
-    /// A map with faults anywhere, fewer to the row where the array is large.
+    /// An inner position in the first or last row or column.
+    fn rim(&mut self, array: Array) -> Cell {
+        let (x, y) = self.inner(array);
+        self.pick(&[(1, y), (array.rows, y), (x, 1), (x, array.columns)])
+    }
+
+    /// A path from the rim straight across the array.
+    fn crossing(&mut self, array: Array) -> Path {
+        let (x, y) = self.inner(array);
+        let direction = self.pick(&DIRECTIONS);
+        let start = match direction {
+            Direction::South => (1, y),
+            Direction::North => (array.rows, y),
+            Direction::East => (x, 1),
+            Direction::West => (x, array.columns),
+        };
+        Path::new(array, start, direction)
+    }
+
+    /// A map with faults anywhere, fewer to the row where the array is large. Half of the maps have dead processors.
     fn scattered(&mut self, array: Array) -> Case {
         let mut case = self.healthy(array);
         let area = array.rows * array.columns;
         let share = self.pick(&[1, 2, 4, 8]) * (1 + (array.rows + array.columns) / 12);
         for _ in 0..self.below(area / share + 3) {
             let fault = self.inner(array);
-            case.grid[position(fault)] = 1;
+            case.grid[position(fault)] = FAULTY;
         }
         for _ in 0..self.pick(&[0, 0, 1, 2, 4, 8]) {
             let fault = self.spare(array);
-            case.grid[position(fault)] = 1;
+            case.grid[position(fault)] = FAULTY;
+        }
+        if self.one_in(2) {
+            self.deaden(array, &mut case);
         }
         case
     }
 
-    /// Faults with free choices, and one below them that has none: about as many trials as the listing's limit.
+    /// Makes processors dead: one at the rim, one anywhere, several at the rim, or some of the faults.
+    fn deaden(&mut self, array: Array, case: &mut Case) {
+        match self.below(6) {
+            0 | 1 => case.grid[position(self.rim(array))] = DEAD,
+            2 => case.grid[position(self.inner(array))] = DEAD,
+            3 => (0..1 + self.below(4)).for_each(|_| case.grid[position(self.rim(array))] = DEAD),
+            _ => {
+                let share = self.pick(&[1, 2, 3, 4]);
+                for fault in inner_faults(case) {
+                    case.grid[fault] = if self.one_in(share) { DEAD } else { FAULTY };
+                }
+            }
+        }
+    }
+
+    /// Faults with free choices, and one below them, dead or not, that has none: about as many trials as the listing's limit.
     fn hard(&mut self) -> Case {
         let array = Array { rows: 12 + self.below(19), columns: 30 };
         let mut case = self.healthy(array);
         for column in (1..30).step_by(2) {
             let row = 1 + self.below(4);
-            case.grid[position((row, column))] = 1;
+            case.grid[position((row, column))] = FAULTY;
         }
         let (x, y) = (array.rows - 2, 2 + self.below(28));
-        for fault in [(x, y), (x - 1, y), (x + 1, y), (x, y - 1), (x, y + 1)] {
-            case.grid[position(fault)] = 1;
+        for fault in [(x - 1, y), (x + 1, y), (x, y - 1), (x, y + 1)] {
+            case.grid[position(fault)] = FAULTY;
         }
+        case.grid[position((x, y))] = self.pick(&[FAULTY, DEAD]);
         case
     }
 
@@ -187,28 +232,35 @@ impl Maker {
         case
     }
 
-    /// A map with a plan, made fault by fault in any order.
+    /// A map with a plan, made fault by fault in any order. In half of the maps some of the faults whose paths are from the rim are dead.
     fn planned(&mut self, array: Array) -> Case {
         let mut case = self.healthy(array);
         case.directions = vec![0; LENGTH];
         let mut paths: Vec<Path> = Vec::new();
         let mut taken = [false; LENGTH];
+        let dead = self.one_in(2);
         for _ in 0..self.below(3 * (array.rows + array.columns)) {
-            let start = self.inner(array);
-            let path = Path::new(array, start, self.pick(&DIRECTIONS));
-            let free = path.cells.iter().all(|&c| !taken[position(c)] && case.grid[position(c)] == 0);
+            let path = if dead && self.one_in(3) { self.crossing(array) } else { self.path(array) };
+            let free = path.cells.iter().all(|&c| !taken[position(c)] && case.grid[position(c)] == HEALTHY);
             if free && !paths.iter().any(|p| p.nearly_misses(&path)) {
                 path.cells.iter().for_each(|&c| taken[position(c)] = true);
-                case.grid[position(start)] = 1;
-                case.directions[position(start)] = path.direction as u8;
+                let is_dead = dead && path.from_rim && !self.one_in(4);
+                case.grid[position(path.start)] = if is_dead { DEAD } else { FAULTY };
+                case.directions[position(path.start)] = path.direction as u8;
                 paths.push(path);
             }
         }
         for _ in 0..self.below(4) {
             let spare = position(self.spare(array));
-            case.grid[spare] = u8::from(!taken[spare]);
+            case.grid[spare] = if taken[spare] { HEALTHY } else { FAULTY };
         }
         case
+    }
+
+    /// A path from anywhere.
+    fn path(&mut self, array: Array) -> Path {
+        let start = self.inner(array);
+        Path::new(array, start, self.pick(&DIRECTIONS))
     }
 
     /// A map with directions, which mostly are a plan.
@@ -222,6 +274,9 @@ impl Maker {
         }
         for _ in 0..self.pick(&[0, 0, 0, 1, 2]) {
             self.turn_direction(&mut case);
+        }
+        if self.one_in(12) {
+            self.dead_fault(&mut case);
         }
         case
     }
@@ -279,10 +334,31 @@ impl Maker {
         self.change(case, |c| &mut c.grid, &[0, 1, 2, 3, 255]);
     }
 
+    /// Marks as dead a position that is not inner: a spare, a corner, or one outside the array.
+    fn dead_outside(&mut self, case: &mut Case) {
+        let (n, m) = (case.n.min(30), case.m.min(30));
+        let (x, y) = (self.below(n + 1), self.below(m + 1));
+        let places = [(0, y), (n + 1, y), (x, 0), (x, m + 1), (0, 0), (0, m + 1), (n + 1, 0), (n + 1, m + 1), (x, 31), (31, y)];
+        let place = position(self.pick(&places));
+        if let Some(mark) = case.grid.get_mut(place) {
+            *mark = DEAD;
+        }
+    }
+
     fn turn_health(&mut self, case: &mut Case) {
-        let place = self.place(case);
-        if let Some(mark @ 0..=1) = case.grid.get_mut(place) {
-            *mark = 1 - *mark;
+        let (place, faulty) = (self.place(case), self.pick(&[FAULTY, FAULTY, DEAD]));
+        match case.grid.get(place) {
+            Some(&HEALTHY) => case.grid[place] = faulty,
+            Some(&(FAULTY | DEAD)) => case.grid[place] = HEALTHY,
+            _ => {}
+        }
+    }
+
+    /// Makes one of the faults dead, wherever its path goes; it may be a spare.
+    fn dead_fault(&mut self, case: &mut Case) {
+        let faults: Vec<usize> = (0..case.grid.len()).filter(|&p| case.grid[p] == FAULTY).collect();
+        if !faults.is_empty() {
+            case.grid[self.pick(&faults)] = DEAD;
         }
     }
 
@@ -418,7 +494,7 @@ impl Maker {
         let array = self.array(512, 6);
         let mut case = if self.one_in(4) { self.with_directions(array) } else { self.planned(array) };
         (case.across, case.down) = (vec![0; LENGTH], vec![0; LENGTH]);
-        case.cell = position(self.inner(array));
+        case.cell = self.near_dead(&case).unwrap_or(position(self.inner(array)));
         case.side = self.below(2);
         match self.below(3) {
             0 => self.any_letters(array, &mut case),
@@ -427,6 +503,18 @@ impl Maker {
         self.spoil(&mut case, 4, &LINK_DAMAGES);
         self.spoil(&mut case, 8, &PLAN_DAMAGES);
         case
+    }
+
+    /// The position of a dead processor or beside it, in half of the cases that have one.
+    fn near_dead(&mut self, case: &Case) -> Option<usize> {
+        let array = Array { rows: case.n, columns: case.m };
+        let dead: Vec<Cell> = array.inner_cells().filter(|&c| case.grid[position(c)] == DEAD).collect();
+        if dead.is_empty() || self.one_in(2) {
+            return None;
+        }
+        let (x, y) = self.pick(&dead);
+        let beside = self.pick(&[(x, y), (x, y), (x - 1, y), (x + 1, y), (x, y - 1), (x, y + 1)]);
+        array.is_inner(beside).then_some(position(beside))
     }
 
     /// Gives every switch the letter that routing gives it, or changes some of these; any letter where the directions are no plan.
@@ -515,21 +603,64 @@ impl Maker {
         }
     }
 
-    /// A file of these records, mostly in the order given, which is row order, or a damaged one.
-    fn file<const K: usize>(&mut self, array: Array, mut records: Vec<[usize; K]>) -> Vec<u8> {
+    /// A plan file of these records, or a damaged one.
+    fn plan_file(&mut self, array: Array, mut records: Vec<[usize; 3]>) -> Vec<u8> {
+        self.damage_records(&mut records);
+        let mut file = reference::file_of(array, &records);
+        self.damage_file(&mut file);
+        file
+    }
+
+    /// The map file of a grid, or a damaged one.
+    fn map_bytes(&mut self, array: Array, grid: &[u8]) -> Vec<u8> {
+        let mut faults = reference::map_records(array, grid, FAULTY);
+        let mut dead = reference::map_records(array, grid, DEAD);
+        if dead.is_empty() || self.one_in(4) {
+            self.damage_records(&mut faults);
+        }
+        self.damage_records(&mut dead);
+        if self.one_in(8) {
+            self.add_place(array, &mut faults, &mut dead);
+        }
+        let mut file = reference::map_file_of(array, &faults, &dead);
+        if self.one_in(16) {
+            let more: [&[u8]; 6] = [&[0], &[0, 1, 1], &[0x80], &[0x80, 0], &[1], &[1, 1]];
+            file.extend(self.pick(&more));
+        }
+        self.damage_file(&mut file);
+        file
+    }
+
+    /// Puts a place of one list into the other too, or a spare or the first inner position into the list of dead processors, in row order.
+    fn add_place(&mut self, array: Array, faults: &mut Vec<[usize; 2]>, dead: &mut Vec<[usize; 2]>) {
+        let (x, y) = self.spare(array);
+        match self.below(4) {
+            0 if !dead.is_empty() => faults.push(self.pick(dead)),
+            0 | 1 if !faults.is_empty() => dead.push(self.pick(faults)),
+            2 => dead.push([x, y]),
+            _ if !dead.contains(&[1, 1]) => dead.push([1, 1]),
+            _ => {}
+        }
+        faults.sort();
+        dead.sort();
+    }
+
+    /// Leaves most lists in the order given, which is row order.
+    fn damage_records<const K: usize>(&mut self, records: &mut Vec<[usize; K]>) {
         if self.one_in(6) {
-            self.reorder(&mut records);
+            self.reorder(records);
         }
         if self.one_in(4) {
-            self.spoil_records(&mut records);
+            self.spoil_records(records);
         }
-        let mut file = reference::file_of(array, &records);
+    }
+
+    fn damage_file(&mut self, file: &mut Vec<u8>) {
         if self.one_in(3) {
             for _ in 0..self.pick(&[1, 1, 1, 2]) {
-                self.spoil_file(&mut file);
+                self.spoil_file(file);
             }
         }
-        file
     }
 
     /// Exchanges two neighbouring records, moves one anywhere, or takes all of them in any order.
@@ -589,7 +720,7 @@ impl Maker {
 
     fn map_file(&mut self, mut case: Case) -> Case {
         let array = Array { rows: case.n, columns: case.m };
-        case.file = self.file(array, reference::map_records(array, &case.grid));
+        case.file = self.map_bytes(array, &case.grid);
         case.grid = Vec::new();
         case.directions = Vec::new();
         case
@@ -607,11 +738,12 @@ impl Maker {
         case
     }
 
-    /// Makes half of all processors faulty, or all of them, for large counts.
+    /// Makes half of all processors faulty, or all of them, and none, some or all of the inner ones dead, for large counts.
     fn any_faults(&mut self, array: Array, case: &mut Case) {
-        let share = self.pick(&[1, 2, 2]);
+        let (share, dead) = (self.pick(&[1, 2, 2]), self.pick(&[1, 2, 8, LENGTH]));
         for c in array.cells().filter(|&c| array.is_processor(c)) {
-            case.grid[position(c)] = u8::from(self.one_in(share));
+            let faulty = if array.is_inner(c) && self.one_in(dead) { DEAD } else { FAULTY };
+            case.grid[position(c)] = if self.one_in(share) { faulty } else { HEALTHY };
         }
     }
 
@@ -631,7 +763,7 @@ impl Maker {
     pub fn for_plan_file(&mut self) -> Case {
         let mut case = self.any_directions();
         let array = Array { rows: case.n, columns: case.m };
-        case.file = self.file(array, reference::plan_records(array, &case.directions));
+        case.file = self.plan_file(array, reference::plan_records(array, &case.directions));
         case.directions = self.noise(LENGTH).to_vec();
         self.spoil(&mut case, 16, &[Maker::bad_length]);
         case
@@ -655,7 +787,8 @@ impl Maker {
         if self.one_in(16) {
             self.any_faults(array, &mut case);
         }
-        let needed = reference::file_of(array, &reference::map_records(array, &case.grid)).len();
+        let lists = [FAULTY, DEAD].map(|mark| reference::map_records(array, &case.grid, mark));
+        let needed = reference::map_file_of(array, &lists[0], &lists[1]).len();
         case.out = self.room(needed);
         self.spoil(&mut case, 4, &MAP_DAMAGES);
         case
@@ -672,7 +805,7 @@ impl Maker {
 
     /// A map that is decided soon, except once in very many.
     fn for_listing(&mut self) -> Case {
-        if self.one_in(50_000) {
+        if self.one_in(25_000) {
             return self.hard();
         }
         let array = self.array(512, 4);
@@ -695,7 +828,7 @@ impl Maker {
 
 fn inner_faults(case: &Case) -> Vec<usize> {
     let array = Array { rows: case.n, columns: case.m };
-    array.inner_cells().map(position).filter(|&p| case.grid[p] == 1).collect()
+    array.inner_cells().map(position).filter(|&p| is_faulty(case.grid[p])).collect()
 }
 
 /// The trials that a map takes, where they are not many.

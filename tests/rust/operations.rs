@@ -1,7 +1,7 @@
 //! The operations under comparison: how inputs are made, what the reference, the library and the wrapper say, and which answers are possible.
 
 use crate::Buffers;
-use crate::inputs::{Case, Maker};
+use crate::inputs::{Case, ENOUGH, Maker};
 use crate::reference;
 use chantspruce::{Reason, flat};
 
@@ -24,6 +24,8 @@ pub struct Operation {
     pub safe: fn(&Case, &mut Buffers) -> Answer,
     /// Which answer it is, for the count; the case is as the call left it.
     pub kind: fn(&Answer, &Case) -> u32,
+    /// Whether an answer of this kind is counted apart because of a dead processor; the case is as before the call.
+    pub dead: fn(&Operation, u32, &Case) -> bool,
     /// All answers there can be.
     pub kinds: &'static [u32],
     /// Whether it has an array.
@@ -35,6 +37,12 @@ const REPAIRED: u32 = 101;
 const BEYOND: u32 = 102;
 const SPENT: u32 = 103;
 pub const REFUSED_MAP: u32 = 104;
+const SECOND_COUNT_0: u32 = 105;
+const IN_BOTH_LISTS: u32 = 106;
+
+/// Added to the kind of an accepted answer, repaired and spent among them, of a map with a dead processor; to that of a refusal and of beyond
+/// repair where with ordinary faults in place of the dead processors, and at most `ENOUGH` trials, the answer is of another kind; and to that of a refusal in the second list of a map file.
+pub const DEAD: u32 = 1000;
 
 pub fn kind_name(kind: u32) -> String {
     match kind {
@@ -43,6 +51,9 @@ pub fn kind_name(kind: u32) -> String {
         BEYOND => "beyond repair".to_string(),
         SPENT => "spent".to_string(),
         REFUSED_MAP => "map refused".to_string(),
+        SECOND_COUNT_0 => "second count 0".to_string(),
+        IN_BOTH_LISTS => "in both lists".to_string(),
+        DEAD.. => format!("{}, dead", kind_name(kind - DEAD)),
         number => format!("refused {number}"),
     }
 }
@@ -70,6 +81,78 @@ fn by_listing(answer: &Answer, after: &Case) -> u32 {
         Some(b'b') => BEYOND,
         _ => SPENT,
     }
+}
+
+/// The kind of a map file's answer: refusals in the second list apart from those in the first.
+fn by_map_file(answer: &Answer, after: &Case) -> u32 {
+    let Some(second) = second_part(&after.file) else {
+        return answer.number;
+    };
+    match answer.number {
+        2 => 2,
+        11 if repeats_first(&after.file, second, answer.place) => IN_BOTH_LISTS,
+        12 if answer.place == second => SECOND_COUNT_0,
+        number => DEAD + number,
+    }
+}
+
+/// The offset after the first list of a map file, where that list is accepted and the file goes on.
+fn second_part(file: &[u8]) -> Option<usize> {
+    let number = |at: usize| reference::read_number(file, at).ok();
+    let (_, at) = number(0)?;
+    let (_, at) = number(at)?;
+    let (count, mut at) = number(at)?;
+    for _ in 0..2 * count {
+        at = number(at)?.1;
+    }
+    let first = reference::read_map(&file[..at], &mut [0; reference::LENGTH]);
+    (at < file.len() && first.is_ok()).then_some(at)
+}
+
+/// Whether the record at an offset has a place of the first list, which ends at `second`.
+fn repeats_first(file: &[u8], second: usize, record: usize) -> bool {
+    let mut grid = [0; reference::LENGTH];
+    let place = reference::read_number(file, record).and_then(|(x, at)| Ok((x, reference::read_number(file, at)?.0)));
+    let first = reference::read_map(&file[..second], &mut grid);
+    first.is_ok() && place.is_ok_and(|(x, y)| grid[32 * x as usize + y as usize] == reference::FAULTY)
+}
+
+// Whether a dead processor matters to an answer.
+
+fn never(_: &Operation, _: u32, _: &Case) -> bool {
+    false
+}
+
+/// Of an operation that reads a grid.
+fn in_grid(operation: &Operation, kind: u32, before: &Case) -> bool {
+    let has_dead = before.grid.contains(&reference::DEAD);
+    if !has_dead || matches!(kind, 0 | REPAIRED | SPENT) {
+        return has_dead;
+    }
+    let mut ordinary = before.clone();
+    make_ordinary(&mut ordinary.grid);
+    ordinary.limit = ordinary.limit.min(ENOUGH);
+    let answer = (operation.reference)(&mut ordinary);
+    (operation.kind)(&answer, &ordinary) != kind
+}
+
+/// Of the listing.
+fn in_file(_: &Operation, kind: u32, before: &Case) -> bool {
+    let mut grid = [0; reference::LENGTH];
+    let Ok(head) = reference::read_map(&before.file, &mut grid) else {
+        return false;
+    };
+    if !grid.contains(&reference::DEAD) || !matches!(kind, REPAIRED | SPENT | BEYOND) {
+        return false;
+    }
+    make_ordinary(&mut grid);
+    let ordinary = reference::plan_repair(head.rows, head.columns, &grid, &mut [0; reference::LENGTH], ENOUGH);
+    kind != BEYOND || !matches!(ordinary, Ok(reference::Outcome::Beyond(_)))
+}
+
+/// Makes ordinary faults of dead processors.
+fn make_ordinary(grid: &mut [u8]) {
+    grid.iter_mut().filter(|mark| **mark == reference::DEAD).for_each(|mark| *mark = reference::FAULTY);
 }
 
 // The answers of the three as plain numbers.
@@ -114,6 +197,7 @@ fn number_of(refusal: chantspruce::Refusal) -> u32 {
         Reason::TrackEnds => 17,
         Reason::FourthSwitch => 18,
         Reason::RecordOrder => 19,
+        Reason::DeadPlace => 20,
         Reason::Unknown => u32::MAX,
     };
     if refusal.number() == number { number } else { u32::MAX }
@@ -204,7 +288,8 @@ const CHECK_PLAN: Operation = Operation {
     flat: |c, b| verdict(flat::check_plan(c.n, c.m, b.grid.lend(), b.directions.lend())),
     safe: |c, b| said(chantspruce::check_plan(c.n, c.m, b.grid.lend(), b.directions.lend()), |()| NO_VALUES),
     kind: by_number,
-    kinds: &[0, 1, 2, 3, 4, 5, 6, 7],
+    dead: in_grid,
+    kinds: &[0, 1, 2, 3, 4, 5, 6, 7, DEAD, DEAD + 3, DEAD + 5],
     sized: true,
 };
 
@@ -219,7 +304,8 @@ const CHECK_FAULT_LIST: Operation = Operation {
     flat: |c, b| verdict(flat::check_fault_list(c.n, c.m, b.grid.lend(), b.faults.lend())),
     safe: |c, b| said(chantspruce::check_fault_list(c.n, c.m, b.grid.lend(), b.faults.lend()), |()| NO_VALUES),
     kind: by_number,
-    kinds: &[0, 1, 2, 3, 4, 5, 6, 7],
+    dead: in_grid,
+    kinds: &[0, 1, 2, 3, 4, 5, 6, 7, DEAD, DEAD + 3, DEAD + 5],
     sized: true,
 };
 
@@ -231,7 +317,8 @@ const PLAN_REPAIR: Operation = Operation {
     flat: |c, b| planned(flat::plan_repair(c.n, c.m, b.grid.lend(), b.directions.lend(), c.limit)),
     safe: |c, b| said(chantspruce::plan_repair(c.n, c.m, b.grid.lend(), b.directions.lend(), c.limit), |o| outcome_said(o, 0)),
     kind: by_outcome,
-    kinds: &[REPAIRED, BEYOND, SPENT, 1, 2, 3],
+    dead: in_grid,
+    kinds: &[REPAIRED, BEYOND, SPENT, 1, 2, 3, DEAD + REPAIRED, DEAD + BEYOND, DEAD + SPENT, DEAD + 3],
     sized: true,
 };
 
@@ -243,7 +330,8 @@ const PLACE_CELLS: Operation = Operation {
     flat: |c, b| verdict(flat::place_cells(c.n, c.m, b.grid.lend(), b.directions.lend(), b.places.lend())),
     safe: |c, b| said(chantspruce::place_cells(c.n, c.m, b.grid.lend(), b.directions.lend(), b.places.lend()), |()| NO_VALUES),
     kind: by_number,
-    kinds: &[0, 1, 2, 3, 4, 5, 6, 7],
+    dead: in_grid,
+    kinds: &[0, 1, 2, 3, 4, 5, 6, 7, DEAD, DEAD + 3, DEAD + 5],
     sized: true,
 };
 
@@ -258,7 +346,8 @@ const ROUTE_SWITCHES: Operation = Operation {
         said(result, |()| NO_VALUES)
     },
     kind: by_number,
-    kinds: &[0, 1, 2, 3, 4, 5, 6, 7],
+    dead: in_grid,
+    kinds: &[0, 1, 2, 3, 4, 5, 6, 7, DEAD, DEAD + 3, DEAD + 5],
     sized: true,
 };
 
@@ -279,7 +368,8 @@ const FOLLOW_LINK: Operation = Operation {
         said(chantspruce::follow_link(c.n, c.m, grid, directions, across, down, c.cell, c.side), link_said)
     },
     kind: by_number,
-    kinds: &[0, 1, 2, 3, 4, 5, 6, 7, 15, 16, 17, 18],
+    dead: in_grid,
+    kinds: &[0, 1, 2, 3, 4, 5, 6, 7, 15, 16, 17, 18, DEAD, DEAD + 3, DEAD + 5, DEAD + 17],
     sized: true,
 };
 
@@ -302,7 +392,8 @@ const REPAIR_RUN: Operation = Operation {
         said(result, |run| outcome_said(run.outcome, run.links))
     },
     kind: by_outcome,
-    kinds: &[REPAIRED, BEYOND, SPENT, 1, 2, 3],
+    dead: in_grid,
+    kinds: &[REPAIRED, BEYOND, SPENT, 1, 2, 3, DEAD + REPAIRED, DEAD + BEYOND, DEAD + SPENT, DEAD + 3],
     sized: true,
 };
 
@@ -314,6 +405,7 @@ const READ_NUMBER: Operation = Operation {
     flat: |c, b| number_read(flat::read_number(b.file.lend(), c.at)),
     safe: |c, b| said(chantspruce::read_number(b.file.lend(), c.at), |number| [number.value as usize, number.next, 0]),
     kind: by_number,
+    dead: never,
     kinds: &[0, 8, 9],
     sized: false,
 };
@@ -329,8 +421,27 @@ const READ_MAP: Operation = Operation {
         let (file, grid) = (b.file.lend(), b.grid.lend());
         said(read, |head| head_said(head, file, |out| chantspruce::write_map(head.rows, head.columns, grid, out)))
     },
-    kind: by_number,
-    kinds: &[0, 1, 2, 8, 9, 10, 11, 12, 19],
+    kind: by_map_file,
+    dead: never,
+    kinds: &[
+        0,
+        1,
+        2,
+        8,
+        9,
+        10,
+        11,
+        19,
+        DEAD,
+        DEAD + 8,
+        DEAD + 9,
+        DEAD + 11,
+        DEAD + 12,
+        DEAD + 19,
+        DEAD + 20,
+        SECOND_COUNT_0,
+        IN_BOTH_LISTS,
+    ],
     sized: true,
 };
 
@@ -346,6 +457,7 @@ const READ_PLAN: Operation = Operation {
         said(read, |head| head_said(head, file, |out| chantspruce::write_plan(head.rows, head.columns, directions, out)))
     },
     kind: by_number,
+    dead: never,
     kinds: &[0, 1, 2, 8, 9, 10, 11, 12, 13, 19],
     sized: true,
 };
@@ -358,7 +470,8 @@ const WRITE_MAP: Operation = Operation {
     flat: |c, b| written(flat::write_map(c.n, c.m, b.grid.lend(), b.out.lend())),
     safe: |c, b| said(chantspruce::write_map(c.n, c.m, b.grid.lend(), b.out.lend()), |length| [length, 0, 0]),
     kind: by_number,
-    kinds: &[0, 1, 2, 3, 14],
+    dead: in_grid,
+    kinds: &[0, 1, 2, 3, 14, DEAD, DEAD + 3, DEAD + 14],
     sized: true,
 };
 
@@ -370,6 +483,7 @@ const WRITE_PLAN: Operation = Operation {
     flat: |c, b| written(flat::write_plan(c.n, c.m, b.directions.lend(), b.out.lend())),
     safe: |c, b| said(chantspruce::write_plan(c.n, c.m, b.directions.lend(), b.out.lend()), |length| [length, 0, 0]),
     kind: by_number,
+    dead: never,
     kinds: &[0, 1, 2, 4, 14],
     sized: true,
 };
@@ -382,6 +496,7 @@ const REPORT: Operation = Operation {
     flat: |_, b| written(flat::report(b.file.lend(), b.out.lend())),
     safe: |_, b| said(chantspruce::report(b.file.lend(), b.out.lend()), |length| [length, 0, 0]),
     kind: by_listing,
-    kinds: &[REPAIRED, BEYOND, SPENT, REFUSED_MAP, 14],
+    dead: in_file,
+    kinds: &[REPAIRED, BEYOND, SPENT, REFUSED_MAP, 14, DEAD + REPAIRED, DEAD + BEYOND, DEAD + SPENT],
     sized: true,
 };

@@ -1,4 +1,4 @@
-//! The operations once more, as plainly as document 01 and docs/DECISIONS.md put them, for the comparison with the library.
+//! The operations once more, as plainly as documents 01 and 02 and docs/DECISIONS.md put them, for the comparison with the library.
 //! Nothing here is taken from the library: paths are lists of cells, and links run over a map of ports.
 
 /// The length of each buffer that is indexed by position.
@@ -6,6 +6,17 @@ pub const LENGTH: usize = 1024;
 
 /// The limit that the listing plans with.
 const LISTING_LIMIT: u32 = 1_000_000;
+
+/// The marks of a grid.
+pub const HEALTHY: u8 = 0;
+pub const FAULTY: u8 = 1;
+pub const NO_PROCESSOR: u8 = 2;
+/// A faulty processor that joins none of its ports.
+pub const DEAD: u8 = 3;
+
+pub fn is_faulty(mark: u8) -> bool {
+    mark == FAULTY || mark == DEAD
+}
 
 /// A refusal: its number, place and second place.
 #[derive(Clone, Copy, Debug, PartialEq, Eq)]
@@ -118,8 +129,13 @@ fn test_lengths(lengths: &[usize]) -> Result<(), Refusal> {
 }
 
 fn test_marks(array: Array, grid: &[u8]) -> Result<(), Refusal> {
-    let wrong = |c: Cell, p: usize| if array.is_processor(c) { grid[p] > 1 } else { grid[p] != 2 };
-    lowest(wrong).map_or(Ok(()), |p| refuse(3, p))
+    let allowed = |c: Cell, mark: u8| match mark {
+        HEALTHY | FAULTY => array.is_processor(c),
+        NO_PROCESSOR => !array.is_processor(c),
+        DEAD => array.is_inner(c),
+        _ => false,
+    };
+    lowest(|c, p| !allowed(c, grid[p])).map_or(Ok(()), |p| refuse(3, p))
 }
 
 /// The tests 1 to 3; `others` are the lengths of the buffers besides the grid.
@@ -132,7 +148,7 @@ fn test_map(n: usize, m: usize, grid: &[u8], others: &[usize]) -> Result<Array, 
 }
 
 fn test_directions(array: Array, grid: &[u8], directions: &[u8]) -> Result<(), Refusal> {
-    let is_fault = |c: Cell, p: usize| array.is_inner(c) && grid[p] == 1;
+    let is_fault = |c: Cell, p: usize| array.is_inner(c) && is_faulty(grid[p]);
     let wrong = |c: Cell, p: usize| if is_fault(c, p) { !(1..=4).contains(&directions[p]) } else { directions[p] != 0 };
     lowest(wrong).map_or(Ok(()), |p| refuse(4, p))
 }
@@ -155,6 +171,8 @@ pub struct Path {
     pub direction: Direction,
     /// From the start to the spare.
     pub cells: Vec<Cell>,
+    /// Whether it goes south from row 1, north from row N, east from column 1 or west from column M: then no link runs through its start.
+    pub from_rim: bool,
 }
 
 impl Path {
@@ -166,7 +184,13 @@ impl Path {
             East => (y..=array.columns + 1).map(|c| (x, c)).collect(),
             West => (0..=y).rev().map(|c| (x, c)).collect(),
         };
-        Path { start, direction, cells }
+        let from_rim = match direction {
+            South => x == 1,
+            North => x == array.rows,
+            East => y == 1,
+            West => y == array.columns,
+        };
+        Path { start, direction, cells, from_rim }
     }
 
     pub fn is_vertical(&self) -> bool {
@@ -174,7 +198,8 @@ impl Path {
     }
 
     pub fn is_open(&self, grid: &[u8]) -> bool {
-        self.cells[1..].iter().all(|&c| grid[position(c)] == 0)
+        let starts_dead = grid[position(self.start)] == DEAD;
+        self.cells[1..].iter().all(|&c| grid[position(c)] == HEALTHY) && (!starts_dead || self.from_rim)
     }
 
     fn meets(&self, other: &Path) -> bool {
@@ -197,7 +222,7 @@ fn opposed(a: &Path, b: &Path) -> bool {
 }
 
 fn inner_faults(array: Array, grid: &[u8]) -> Vec<Cell> {
-    array.inner_cells().filter(|&c| grid[position(c)] == 1).collect()
+    array.inner_cells().filter(|&c| is_faulty(grid[position(c)])).collect()
 }
 
 fn paths(array: Array, grid: &[u8], directions: &[u8]) -> Vec<Path> {
@@ -459,13 +484,14 @@ fn joins(kind: usize, letter: u8) -> &'static [(usize, usize)] {
 }
 
 impl Track {
-    fn new(plan: &Planned, across: &[u8], down: &[u8]) -> Track {
+    /// A fault joins two of its ports by its path, unless it is dead.
+    fn new(plan: &Planned, grid: &[u8], across: &[u8], down: &[u8]) -> Track {
         let mut track = Track { stretch: [NOTHING; PORTS], join: [NOTHING; PORTS] };
         for c in plan.array.cells() {
             track.lay_across(plan.array, c, across);
             track.lay_down(plan.array, c, down);
         }
-        for path in &plan.paths {
+        for path in plan.paths.iter().filter(|p| grid[position(p.start)] != DEAD) {
             let (a, b) = if path.is_vertical() { (N, S) } else { (W, E) };
             pair(&mut track.join, port(PROCESSOR, path.start, a), port(PROCESSOR, path.start, b));
         }
@@ -518,7 +544,7 @@ impl Track {
             }
             if is_switch {
                 (last, switches) = (place, switches + 1);
-            } else if grid[place] == 0 {
+            } else if grid[place] == HEALTHY {
                 return Ok(Arrival { position: place, port: entered as usize % 4, switches });
             }
             if self.join[entered as usize] == NOTHING {
@@ -553,7 +579,7 @@ pub fn follow_link(
     test_switches(plan.array, across, down)?;
     let mut places = [0; LENGTH];
     write_places(&plan, &mut places);
-    Track::new(&plan, across, down).follow(grid, places[of] as usize, [E, S][side])
+    Track::new(&plan, grid, across, down).follow(grid, places[of] as usize, [E, S][side])
 }
 
 // The run.
@@ -581,7 +607,7 @@ pub fn repair_run(
     let plan = Planned { array, paths };
     write_places(&plan, places);
     write_switches(&plan, across, down);
-    Ok((outcome, count_links(&plan, grid, places, &Track::new(&plan, across, down))))
+    Ok((outcome, count_links(&plan, grid, places, &Track::new(&plan, grid, across, down))))
 }
 
 fn count_links(plan: &Planned, grid: &[u8], places: &[u16], track: &Track) -> usize {
@@ -631,8 +657,12 @@ impl Reader<'_> {
         }
     }
 
+    fn is_done(&self) -> bool {
+        self.at == self.file.len()
+    }
+
     fn end(&self) -> Result<(), Refusal> {
-        if self.at == self.file.len() { Ok(()) } else { refuse(12, self.at) }
+        if self.is_done() { Ok(()) } else { refuse(12, self.at) }
     }
 }
 
@@ -641,30 +671,57 @@ fn test_order(before: Option<Cell>, cell: Cell, start: usize) -> Result<(), Refu
     if before.is_some_and(|b| cell < b) { refuse(19, start) } else { Ok(()) }
 }
 
+/// Reads a list of so many places of a map and marks each. `allowed` says where such a mark may stand, and another place is refused with `number`.
+fn read_places(
+    reader: &mut Reader,
+    count: usize,
+    allowed: impl Fn(Cell) -> bool,
+    number: u32,
+    mark: u8,
+    marks: &mut [u8; LENGTH],
+) -> Result<(), Refusal> {
+    let mut before = None;
+    for _ in 0..count {
+        let start = reader.at;
+        let place = (reader.number()?, reader.number()?);
+        if !allowed(place) {
+            return refuse(number, start);
+        }
+        if is_faulty(marks[position(place)]) {
+            return refuse(11, start);
+        }
+        test_order(before, place, start)?;
+        before = Some(place);
+        marks[position(place)] = mark;
+    }
+    Ok(())
+}
+
+/// Reads the second count of a map, where the file goes on after the first list. Where it ends there, no processor is dead.
+fn read_second_count(reader: &mut Reader) -> Result<usize, Refusal> {
+    if reader.is_done() {
+        return Ok(0);
+    }
+    let start = reader.at;
+    match reader.number()? {
+        0 => refuse(12, start),
+        count => Ok(count),
+    }
+}
+
 pub fn read_map(file: &[u8], grid: &mut [u8]) -> Result<Head, Refusal> {
     test_lengths(&[grid.len()])?;
     let mut reader = Reader { file, at: 0 };
     let array = Array { rows: reader.side()?, columns: reader.side()? };
-    let mut marks = [2; LENGTH];
-    array.cells().filter(|&c| array.is_processor(c)).for_each(|c| marks[position(c)] = 0);
-    let count = reader.number()?;
-    let mut before = None;
-    for _ in 0..count {
-        let start = reader.at;
-        let fault = (reader.number()?, reader.number()?);
-        if !array.is_processor(fault) {
-            return refuse(10, start);
-        }
-        if marks[position(fault)] == 1 {
-            return refuse(11, start);
-        }
-        test_order(before, fault, start)?;
-        before = Some(fault);
-        marks[position(fault)] = 1;
-    }
+    let mut marks = [NO_PROCESSOR; LENGTH];
+    array.cells().filter(|&c| array.is_processor(c)).for_each(|c| marks[position(c)] = HEALTHY);
+    let first = reader.number()?;
+    read_places(&mut reader, first, |c| array.is_processor(c), 10, FAULTY, &mut marks)?;
+    let second = read_second_count(&mut reader)?;
+    read_places(&mut reader, second, |c| array.is_inner(c), 20, DEAD, &mut marks)?;
     reader.end()?;
     grid.copy_from_slice(&marks);
-    Ok(Head { rows: array.rows, columns: array.columns, count })
+    Ok(Head { rows: array.rows, columns: array.columns, count: first + second })
 }
 
 pub fn read_plan(file: &[u8], directions: &mut [u8]) -> Result<Head, Refusal> {
@@ -704,12 +761,24 @@ fn push_number(file: &mut Vec<u8>, value: usize) {
     }
 }
 
+/// The number of records, and the numbers of each.
+fn push_records<R: AsRef<[usize]>>(file: &mut Vec<u8>, records: &[R]) {
+    push_number(file, records.len());
+    records.iter().flat_map(|r| r.as_ref()).for_each(|&value| push_number(file, value));
+}
+
 /// A file of records that have the given numbers each.
 pub fn file_of<R: AsRef<[usize]>>(array: Array, records: &[R]) -> Vec<u8> {
-    let mut file = Vec::new();
-    let head = [array.rows, array.columns, records.len()];
-    for &value in head.iter().chain(records.iter().flat_map(|r| r.as_ref())) {
-        push_number(&mut file, value);
+    let mut file = vec![array.rows as u8, array.columns as u8];
+    push_records(&mut file, records);
+    file
+}
+
+/// A map file: the faults, then the dead processors where there are any.
+pub fn map_file_of(array: Array, faults: &[[usize; 2]], dead: &[[usize; 2]]) -> Vec<u8> {
+    let mut file = file_of(array, faults);
+    if !dead.is_empty() {
+        push_records(&mut file, dead);
     }
     file
 }
@@ -723,9 +792,9 @@ fn put(bytes: &[u8], out: &mut [u8]) -> Result<usize, Refusal> {
     Ok(bytes.len())
 }
 
-/// The faults of a map, spares included, in row order.
-pub fn map_records(array: Array, grid: &[u8]) -> Vec<[usize; 2]> {
-    array.cells().filter(|&c| grid[position(c)] == 1).map(|(x, y)| [x, y]).collect()
+/// The places of a map that have a mark, spares included, in row order.
+pub fn map_records(array: Array, grid: &[u8], mark: u8) -> Vec<[usize; 2]> {
+    array.cells().filter(|&c| grid[position(c)] == mark).map(|(x, y)| [x, y]).collect()
 }
 
 /// The paths of a direction buffer in row order.
@@ -736,7 +805,7 @@ pub fn plan_records(array: Array, directions: &[u8]) -> Vec<[usize; 3]> {
 
 pub fn write_map(n: usize, m: usize, grid: &[u8], out: &mut [u8]) -> Result<usize, Refusal> {
     let array = test_map(n, m, grid, &[])?;
-    put(&file_of(array, &map_records(array, grid)), out)
+    put(&map_file_of(array, &map_records(array, grid, FAULTY), &map_records(array, grid, DEAD)), out)
 }
 
 pub fn write_plan(n: usize, m: usize, directions: &[u8], out: &mut [u8]) -> Result<usize, Refusal> {

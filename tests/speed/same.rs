@@ -29,9 +29,16 @@ fn is_processor_at(n: usize, m: usize, x: usize, y: usize) -> bool {
     x <= n + 1 && y <= m + 1 && !((x == 0 || x == n + 1) && (y == 0 || y == m + 1))
 }
 
+fn is_faulty(mark: u8) -> bool {
+    mark == 1 || mark == 3
+}
+
 /// Asks first what holds at most positions, as the library does; so do the tests 4 and 16.
-fn has_processor(n: usize, m: usize, x: usize, y: usize) -> bool {
-    is_inner_at(n, m, x, y) || is_processor_at(n, m, x, y)
+fn is_allowed(n: usize, m: usize, x: usize, y: usize, mark: u8) -> bool {
+    if is_inner_at(n, m, x, y) {
+        return mark <= 1 || mark == 3;
+    }
+    if is_processor_at(n, m, x, y) { mark <= 1 } else { mark == 2 }
 }
 
 fn check_map(n: usize, m: usize, right: bool, grid: &[u8]) -> Tested {
@@ -44,8 +51,7 @@ fn check_map(n: usize, m: usize, right: bool, grid: &[u8]) -> Tested {
     for x in 0..32 {
         for y in 0..32 {
             let (p, mark) = (32 * x + y, grid[32 * x + y]);
-            let allowed = if has_processor(n, m, x, y) { mark <= 1 } else { mark == 2 };
-            if !allowed {
+            if !is_allowed(n, m, x, y, mark) {
                 return refuse(3, p, 0);
             }
         }
@@ -74,8 +80,20 @@ fn step_ahead(p: usize, d: u8, k: usize) -> usize {
     }
 }
 
+fn is_from_rim(n: usize, m: usize, p: usize, d: u8) -> bool {
+    match d {
+        1 => p / 32 == 1,
+        2 => p / 32 == n,
+        3 => p % 32 == 1,
+        _ => p % 32 == m,
+    }
+}
+
 fn is_open(n: usize, m: usize, grid: &[u8], p: usize, d: u8) -> bool {
-    (1..length_of(n, m, p, d)).all(|k| grid[step_ahead(p, d, k)] != 1)
+    if grid[p] == 3 && !is_from_rim(n, m, p, d) {
+        return false;
+    }
+    (1..length_of(n, m, p, d)).all(|k| !is_faulty(grid[step_ahead(p, d, k)]))
 }
 
 /// How two paths clash, by the geometry: 0 not at all, 1 they meet, 2 a near-miss.
@@ -133,7 +151,7 @@ fn find_entry(table: &[u8; 400], x: u8, y: u8, d: u8, v: u8, w: u8, e: u8) -> u8
 fn list_faults(n: usize, m: usize, grid: &[u8], out: &mut [u16; LONG]) -> usize {
     let mut count = 0;
     for (p, &mark) in grid.iter().enumerate() {
-        if is_inner(n, m, p) && mark == 1 {
+        if is_inner(n, m, p) && is_faulty(mark) {
             out[count] = p as u16;
             count += 1;
         }
@@ -150,7 +168,7 @@ fn note_places(starts: &[u16], rows: &mut [u8], columns: &mut [u8]) {
 
 fn check_directions(n: usize, m: usize, grid: &[u8], directions: &[u8]) -> Tested {
     for (p, (&mark, &d)) in grid.iter().zip(directions).enumerate() {
-        let fault = is_inner(n, m, p) && mark == 1;
+        let fault = is_inner(n, m, p) && is_faulty(mark);
         let wrong = if d == 0 { fault } else { d > 4 || !fault };
         if wrong {
             return refuse(4, p, 0);
@@ -359,7 +377,7 @@ fn state_at(grid: &[u8], traced: &[u8; LONG], down: bool, p: usize) -> u8 {
         4 => 2,
         _ => d,
     };
-    vertical_state(if down { turned } else { d }, grid[p] == 1)
+    vertical_state(if down { turned } else { d }, is_faulty(grid[p]))
 }
 
 fn switch_letter(west: u8, east: u8) -> u8 {
@@ -468,8 +486,11 @@ fn inside_at(w: &Wafer, port: Port) -> Inside {
     let p = 32 * port.row + port.column;
     let side = port.side;
     if port.kind == 0 {
-        if !(is_inner(w.n, w.m, p) && w.grid[p] == 1) {
+        if !(is_inner(w.n, w.m, p) && is_faulty(w.grid[p])) {
             return Inside::Ends;
+        }
+        if w.grid[p] == 3 {
+            return Inside::Stops;
         }
         return match w.directions[p] {
             1 | 2 => straight(1, side),
@@ -497,7 +518,7 @@ fn follow(w: &Wafer, from: usize, side: u8) -> Result<Landing, Refusal> {
         let place = 32 * port.row + port.column;
         let fourth = port.kind != 0 && passed == 3;
         match inside_at(w, port) {
-            Inside::Ends if w.grid[place] == 1 => return refuse(17, last, 0),
+            Inside::Ends if is_faulty(w.grid[place]) => return refuse(17, last, 0),
             Inside::Ends => {
                 return Ok(Landing { position: place, port: port.side, switches: passed });
             }
@@ -620,41 +641,57 @@ fn read_size(s: &[u8], at: usize) -> Result<(usize, usize), Refusal> {
     Ok((v as usize, next))
 }
 
+/// Reads a list of `count` places into `b`, faults (`mark` 1) or dead processors (3), and returns the offset after it.
+fn read_places(s: &[u8], n: usize, m: usize, mark: u8, count: u32, from: usize, b: &mut [u8; LONG]) -> Result<usize, Refusal> {
+    let (mut at, mut before) = (from, 0);
+    for _ in 0..count {
+        let (x, second) = read_number(s, at)?;
+        let (y, next) = read_number(s, second)?;
+        let (x, y) = (x as usize, y as usize);
+        let allowed = if mark == 1 { is_processor_at(n, m, x, y) } else { is_inner_at(n, m, x, y) };
+        if !allowed {
+            return refuse(if mark == 1 { 10 } else { 20 }, at, 0);
+        }
+        let p = 32 * x + y;
+        if is_faulty(b[p]) {
+            return refuse(11, at, 0);
+        }
+        if p < before {
+            return refuse(19, at, 0);
+        }
+        b[p] = mark;
+        before = p;
+        at = next;
+    }
+    Ok(at)
+}
+
 pub fn read_map(s: &[u8], grid: &mut [u8]) -> Result<(usize, usize, usize), Refusal> {
     if grid.len() != LONG {
         return refuse(2, 0, 0);
     }
     let (n, at) = read_size(s, 0)?;
     let (m, at) = read_size(s, at)?;
-    let (count, mut at) = read_number(s, at)?;
-    let mut before = 0;
+    let (count, at) = read_number(s, at)?;
     let mut b = [0u8; LONG];
     for x in 0..32 {
         for y in 0..32 {
             b[32 * x + y] = if is_processor_at(n, m, x, y) { 0 } else { 2 };
         }
     }
-    for _ in 0..count {
-        let (x, second) = read_number(s, at)?;
-        let (y, next) = read_number(s, second)?;
-        let (x, y) = (x as usize, y as usize);
-        if !is_processor_at(n, m, x, y) {
-            return refuse(10, at, 0);
-        }
-        let p = 32 * x + y;
-        if b[p] == 1 {
-            return refuse(11, at, 0);
-        }
-        if p < before {
-            return refuse(19, at, 0);
-        }
-        b[p] = 1;
-        before = p;
-        at = next;
-    }
+    let at = read_places(s, n, m, 1, count, at, &mut b)?;
+    let mut dead = 0;
     if at < s.len() {
-        return refuse(12, at, 0);
+        let (second, next) = read_number(s, at)?;
+        if second == 0 {
+            return refuse(12, at, 0);
+        }
+        let end = read_places(s, n, m, 3, second, next, &mut b)?;
+        if end < s.len() {
+            return refuse(12, end, 0);
+        }
+        dead = second;
     }
     grid.copy_from_slice(&b);
-    Ok((n, m, count as usize))
+    Ok((n, m, (count + dead) as usize))
 }
