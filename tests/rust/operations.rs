@@ -41,7 +41,8 @@ const SECOND_COUNT_0: u32 = 105;
 const IN_BOTH_LISTS: u32 = 106;
 
 /// Added to the kind of an accepted answer, repaired and spent among them, of a map with a dead processor; to that of a refusal and of beyond
-/// repair where with ordinary faults in place of the dead processors, and at most `ENOUGH` trials, the answer is of another kind; and to that of a refusal in the second list of a map file.
+/// repair where with ordinary faults in place of the dead processors, and at most `ENOUGH` trials, the answer is of another kind; and to that
+/// of a refusal in the second list of a map file.
 pub const DEAD: u32 = 1000;
 
 pub fn kind_name(kind: u32) -> String {

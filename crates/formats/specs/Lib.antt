@@ -1,3 +1,4 @@
 pub mod Number
 pub mod Records
+pub mod Parts
 pub mod Ascii

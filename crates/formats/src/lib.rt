@@ -1,10 +1,10 @@
 // Numbers of a file, the two kinds of file and the kinds of record.
 use array::Refusal;
 ghost use mathlib.Core.Path.{_≡_};
-ghost use Prim.Native.Nat.{ℕ, _+_, _<_, _≤_};
+ghost use Prim.Native.Nat.{ℕ, _<_, _≤_};
 ghost use lib.ListN.{length};
-ghost use lib.Seq.{sets};
 ghost use Rattle.formats.specs.Number.{told, number-at, bytes-of, refusal-of};
+ghost use Rattle.formats.specs.Parts.{Room, Wrote};
 ghost use Rattle.formats.specs.Records.{recorded, first-list};
 
 // What reading a number answers: its value with the offset behind it, or the refusal.
@@ -83,8 +83,8 @@ pub fn refusal_of(a: Number) -> Refusal
 
 // Inner part: writes the bytes of a number at an offset and gives the offset after them.
 pub fn write_number(out: &mut [u8], at: usize, v: usize) -> usize
-    requires { ⌜ (v < 16384) × (at + length (bytes-of v) ≤ length (now out)) ⌝ }
-    ensures { λ r. ⌜ (r ≡ at + length (bytes-of v)) × (now (out .exit) ≡ sets (now (out .entry)) at (bytes-of v)) ⌝ }
+    requires { ⌜ (v < 16384) × Room (now out) at (bytes-of v) ⌝ }
+    ensures { λ r. ⌜ Wrote (now (out .entry)) at (bytes-of v) r (now (out .exit)) ⌝ }
 {
     if v < 128 {
         out[at] = v as u8;

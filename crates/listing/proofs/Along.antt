@@ -13,7 +13,7 @@ use lib.Seq.{drop-cons}
 use Rattle.array.proofs.Bools.{or-false}
 use Rattle.writers.proofs.Runs.{Splits, Run, splits-all, run-start, run-room, run-step, run-end}
 use Rattle.listing.specs.Listing.{along, last-digit, digits}
-use Rattle.listing.specs.Parts.{Room, Wrote}
+use Rattle.formats.specs.Parts.{Room, Wrote}
 
 -- what is left to write from index p on
 abbrev pub along-from : (ℕ → ℕ → List ℕ) → List ℕ → ℕ → List ℕ

@@ -15,7 +15,7 @@ use Rattle.writers.proofs.Accepted.{put-short, put-stored}
 use Rattle.writers.proofs.Within.{put-within}
 use Rattle.array.specs.declared.Verdict.the-variants.{Accepted}
 use Rattle.listing.specs.Listing.{listing, reported}
-use Rattle.listing.specs.Parts.{Wrote}
+use Rattle.formats.specs.Parts.{Wrote}
 
 -- bytes were written at the front of a buffer that has room for them
 module _ (text bytes : List ℕ) {r : ℕ} {new : List ℕ} (h : length bytes ≤ length text) (w : Wrote text 0 bytes r new) where

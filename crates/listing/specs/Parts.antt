@@ -1,19 +1,10 @@
--- What the parts of the listing are written under, and what they write.
+-- What the parts of the listing are written under.
 -- Assumes nothing.
 use mathlib.Core.Path.{_≡_}
-use Prim.Native.Nat.{ℕ, _+_, _≤_}
+use Prim.Native.Nat.{ℕ}
 use mathlib.Core.List.{List}
 use lib.ListN.{length}
-use lib.Seq.{sets}
 use Rattle.array.specs.Buffer.{zeros}
-
--- there is room for bytes at an offset
-abbrev pub Room : List ℕ → ℕ → List ℕ → Type 0
-Room out at bytes = at + length bytes ≤ length out
-
--- bytes were written at an offset: the offset after them, and the buffer afterwards
-abbrev pub Wrote : List ℕ → ℕ → List ℕ → ℕ → List ℕ → Type 0
-Wrote old at bytes next new = (next ≡ at + length bytes) × (new ≡ sets old at bytes)
 
 -- the buffers of a plan are all 1,024 long
 pub record Long (grid directions places across down : List ℕ) : Type 0 where

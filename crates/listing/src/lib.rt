@@ -14,7 +14,8 @@ ghost use Rattle.array.specs.Map.{inner-faulty};
 ghost use Rattle.repair.specs.Operations.{plan-repair};
 ghost use Rattle.writers.specs.Writing.{told};
 ghost use Rattle.listing.specs.Listing.{along, digits, field, line, direction-letter, path-line, cell-line, fault-bytes, seat-bytes, letter-bytes, switch-line, plan-lines, repair-lines, outcome-lines, refusal-line, head-line, limit, map-lines, listing, reported};
-ghost use Rattle.listing.specs.Parts.{Room, Wrote, Long, Lent};
+ghost use Rattle.formats.specs.Parts.{Room, Wrote};
+ghost use Rattle.listing.specs.Parts.{Long, Lent};
 
 // Inner part: writes bytes at an offset, and gives the offset after them.
 fn write_bytes(out: &mut [u8], start: usize, bytes: &[u8]) -> usize

@@ -94,6 +94,10 @@ abbrev pub whole-file : List ℕ → Head → List ℕ → Step × List ℕ → 
 whole-file s head lent (step.Next at p, b) = cond (ltb at (length s)) (Refused (refusal 12 at 0), lent) (File head, b)
 whole-file s head lent (step.Refused r, b) = (Refused r, lent)
 
+-- k records of dead processors from an offset on, into a grid, and then the end of the file
+abbrev pub dead-at : List ℕ → Head → List ℕ → ℕ → ℕ → List ℕ → FileRead × List ℕ
+dead-at s head lent k at grid = whole-file s head lent (records-at Dead s (head .rows) (head .columns) k at 0 grid)
+
 -- T-04. What follows the first list of a map: the file ends, or goes on with a second count and the places of the dead
 -- processors. A second count of 0 is 12 at its start. The count that is returned is of both lists.
 abbrev pub second-at : List ℕ → Head → List ℕ → Step × List ℕ → FileRead × List ℕ
@@ -102,8 +106,7 @@ second-at s head lent (step.Next at p, grid) =
     (read-or (number-at s at)
     (λ k a.
     cond (eqb k 0) (Refused (refusal 12 at 0), lent)
-    (whole-file s (record { rows = head .rows; columns = head .columns; count = head .count + k }) lent
-    (records-at Dead s (head .rows) (head .columns) k a 0 grid)))
+    (dead-at s (record { rows = head .rows; columns = head .columns; count = head .count + k }) lent k a grid))
     (λ r. (Refused r, lent)))
     (File head, grid)
 second-at s head lent (step.Refused r, b) = (Refused r, lent)

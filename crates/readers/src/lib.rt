@@ -10,7 +10,7 @@ ghost use Rattle.array.specs.Tests.{refusal};
 ghost use lib.ListN.{length};
 ghost use Rattle.formats.specs.Number.{size-at};
 ghost use Rattle.formats.specs.Records.{blank};
-ghost use Rattle.readers.specs.Reading.{told, record-at, records-at, whole-file, second-at, rest-at, body-at, read-file, read-map, read-plan};
+ghost use Rattle.readers.specs.Reading.{told, record-at, records-at, whole-file, dead-at, second-at, rest-at, body-at, read-file, read-map, read-plan};
 ghost use Rattle.readers.specs.Parts.{blank-mark, stands-at, off-number, repeated, value-at, is-value, marked};
 ghost use Rattle.formats.specs.declared.Record.the-variants.{Dead};
 ghost use Rattle.readers.specs.declared.Step.the-variants.{Next, Refused};
@@ -302,7 +302,7 @@ fn read_dead(
     lent: &mut [u8],
 ) -> FileRead
     requires { ⌜ (head .rows ≤ 30) × (head .columns ≤ 30) × (length (now lent) ≡ 1024) ⌝ }
-    ensures { λ r. ⌜ (r, now (lent .exit)) ≡ whole-file (now (s .entry)) head (now (lent .entry)) (records-at Dead (now (s .entry)) (head .rows) (head .columns) more start 0 faults) ⌝ }
+    ensures { λ r. ⌜ (r, now (lent .exit)) ≡ dead-at (now (s .entry)) head (now (lent .entry)) more start faults ⌝ }
 {
     let mut grid = faults;
     match read_records(

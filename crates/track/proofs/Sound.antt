@@ -178,7 +178,8 @@ module _ (w : Wafer) (r : Routed w) (k l : ℕ) where
         reaches = record {
           link = trail Across Processor unturned t;
           is-link =
-              rw o at (leaves (sound w) Across Processor unturned (across v) (inside v) eastward (along-rows w r) 3 (c .row) (c .col) (last-arrives t _ _ W (g .arrives)));
+              rw o at (leaves (sound w) Across Processor unturned (across v) (inside v) eastward (along-rows w r) 3 (c .row) (c .col)
+              (last-arrives t _ _ W (g .arrives)));
           ends = e;
           few = rw (trail-switches Across Processor unturned eastward t) (g .short);
         };
@@ -209,7 +210,8 @@ module _ (w : Wafer) (r : Routed w) (k l : ℕ) where
         reaches = record {
           link = trail down-turned processor-turned turned t;
           is-link =
-              rw o at (leaves (sound w) down-turned processor-turned turned (across u) (inside u) southward (along-columns w r) 3 (c .row) (c .col) (last-arrives t _ _ W (g .arrives)));
+              rw o at (leaves (sound w) down-turned processor-turned turned (across u) (inside u) southward (along-columns w r) 3 (c .row) (c .col)
+              (last-arrives t _ _ W (g .arrives)));
           ends = e;
           few = rw (trail-switches down-turned processor-turned turned southward t) (g .short);
         };

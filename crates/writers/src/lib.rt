@@ -4,11 +4,12 @@ use array::Verdict;
 use formats::Kind;
 use formats::Record;
 ghost use mathlib.Core.Path.{_≡_};
-ghost use Prim.Native.Nat.{_+_, _<_, _≤_};
+ghost use Prim.Native.Nat.{_<_, _≤_};
 ghost use lib.ListN.{length};
 ghost use lib.Seq.{sets};
 ghost use Rattle.array.specs.Tests.{first-in};
 ghost use Rattle.array.specs.declared.Verdict.the-variants.{Accepted};
+ghost use Rattle.formats.specs.Parts.{Room, Wrote};
 ghost use Rattle.formats.specs.Records.{record-bytes, record-count, list-bytes, file-bytes};
 ghost use Rattle.writers.specs.Writing.{told, path-test, buffer-test, room-test, put, write-file, write-map, write-plan};
 ghost use Rattle.writers.specs.Parts.{pair-bytes, value-bytes, element-bytes, records-of, records-length, list-length, dead-count, dead-list, dead-length, Fitting};
@@ -130,8 +131,8 @@ fn length_of_dead(dead: usize) -> usize
 
 // Writes two numbers at an offset, one after the other, and gives the offset after them.
 fn write_pair(out: &mut [u8], at: usize, x: usize, y: usize) -> usize
-    requires { ⌜ (x < 16384) × (y < 16384) × (at + length (pair-bytes x y) ≤ length (now out)) ⌝ }
-    ensures { λ r. ⌜ (r ≡ at + length (pair-bytes x y)) × (now (out .exit) ≡ sets (now (out .entry)) at (pair-bytes x y)) ⌝ }
+    requires { ⌜ (x < 16384) × (y < 16384) × Room (now out) at (pair-bytes x y) ⌝ }
+    ensures { λ r. ⌜ Wrote (now (out .entry)) at (pair-bytes x y) r (now (out .exit)) ⌝ }
 {
     let second = formats::write_number(out, at, x);
     formats::write_number(out, second, y)
@@ -139,8 +140,8 @@ fn write_pair(out: &mut [u8], at: usize, x: usize, y: usize) -> usize
 
 // Writes what a record has after its row and column, and gives the offset after it.
 fn write_value(kind: Record, out: &mut [u8], at: usize, v: u8) -> usize
-    requires { ⌜ at + length (value-bytes kind v) ≤ length (now out) ⌝ }
-    ensures { λ r. ⌜ (r ≡ at + length (value-bytes kind v)) × (now (out .exit) ≡ sets (now (out .entry)) at (value-bytes kind v)) ⌝ }
+    requires { ⌜ Room (now out) at (value-bytes kind v) ⌝ }
+    ensures { λ r. ⌜ Wrote (now (out .entry)) at (value-bytes kind v) r (now (out .exit)) ⌝ }
 {
     match kind {
         Record::Fault => at,
@@ -151,8 +152,8 @@ fn write_value(kind: Record, out: &mut [u8], at: usize, v: u8) -> usize
 
 // Writes the record of an element at position p, and gives the offset after it.
 fn write_record(kind: Record, out: &mut [u8], at: usize, p: usize, v: u8) -> usize
-    requires { ⌜ (p < 1024) × (at + length (record-bytes kind p v) ≤ length (now out)) ⌝ }
-    ensures { λ r. ⌜ (r ≡ at + length (record-bytes kind p v)) × (now (out .exit) ≡ sets (now (out .entry)) at (record-bytes kind p v)) ⌝ }
+    requires { ⌜ (p < 1024) × Room (now out) at (record-bytes kind p v) ⌝ }
+    ensures { λ r. ⌜ Wrote (now (out .entry)) at (record-bytes kind p v) r (now (out .exit)) ⌝ }
 {
     let third = write_pair(out, at, p / 32, p % 32);
     write_value(kind, out, third, v)
@@ -160,8 +161,8 @@ fn write_record(kind: Record, out: &mut [u8], at: usize, p: usize, v: u8) -> usi
 
 // Writes the record of an element at position p where it has one, and gives the offset after it.
 fn write_element(kind: Record, out: &mut [u8], at: usize, p: usize, v: u8) -> usize
-    requires { ⌜ (p < 1024) × (at + length (element-bytes kind p v) ≤ length (now out)) ⌝ }
-    ensures { λ r. ⌜ (r ≡ at + length (element-bytes kind p v)) × (now (out .exit) ≡ sets (now (out .entry)) at (element-bytes kind p v)) ⌝ }
+    requires { ⌜ (p < 1024) × Room (now out) at (element-bytes kind p v) ⌝ }
+    ensures { λ r. ⌜ Wrote (now (out .entry)) at (element-bytes kind p v) r (now (out .exit)) ⌝ }
 {
     if formats::is_recorded(kind, v) {
         return write_record(kind, out, at, p, v);
@@ -171,8 +172,8 @@ fn write_element(kind: Record, out: &mut [u8], at: usize, p: usize, v: u8) -> us
 
 // Writes the records of a buffer in row order, and gives the offset after them.
 fn write_records(kind: Record, out: &mut [u8], start: usize, b: &[u8]) -> usize
-    requires { ⌜ (length (now b) ≡ 1024) × (start + length (records-of kind (now b)) ≤ length (now out)) ⌝ }
-    ensures { λ r. ⌜ (r ≡ start + length (records-of kind (now (b .entry)))) × (now (out .exit) ≡ sets (now (out .entry)) start (records-of kind (now (b .entry)))) ⌝ }
+    requires { ⌜ (length (now b) ≡ 1024) × Room (now out) start (records-of kind (now b)) ⌝ }
+    ensures { λ r. ⌜ Wrote (now (out .entry)) start (records-of kind (now (b .entry))) r (now (out .exit)) ⌝ }
 {
     let mut at = start;
     for p in 0..1024 {
@@ -183,8 +184,8 @@ fn write_records(kind: Record, out: &mut [u8], start: usize, b: &[u8]) -> usize
 
 // Writes a list, its count and its records, and gives the offset after it.
 fn write_list(kind: Record, out: &mut [u8], at: usize, count: usize, b: &[u8]) -> usize
-    requires { ⌜ (length (now b) ≡ 1024) × (count ≡ record-count kind (now b)) × (count ≤ 1024) × (at + length (list-bytes kind (now b)) ≤ length (now out)) ⌝ }
-    ensures { λ r. ⌜ (r ≡ at + length (list-bytes kind (now (b .entry)))) × (now (out .exit) ≡ sets (now (out .entry)) at (list-bytes kind (now (b .entry)))) ⌝ }
+    requires { ⌜ (length (now b) ≡ 1024) × (count ≡ record-count kind (now b)) × (count ≤ 1024) × Room (now out) at (list-bytes kind (now b)) ⌝ }
+    ensures { λ r. ⌜ Wrote (now (out .entry)) at (list-bytes kind (now (b .entry))) r (now (out .exit)) ⌝ }
 {
     let next = formats::write_number(out, at, count);
     write_records(kind, out, next, b)
@@ -192,8 +193,8 @@ fn write_list(kind: Record, out: &mut [u8], at: usize, count: usize, b: &[u8]) -
 
 // Writes the list of so many dead processors where there is one, and gives the offset after it.
 fn write_dead(out: &mut [u8], at: usize, count: usize, b: &[u8]) -> usize
-    requires { ⌜ (length (now b) ≡ 1024) × (0 < count → count ≡ record-count Dead (now b)) × (count ≤ 1024) × (at + length (dead-list count (now b)) ≤ length (now out)) ⌝ }
-    ensures { λ r. ⌜ (r ≡ at + length (dead-list count (now (b .entry)))) × (now (out .exit) ≡ sets (now (out .entry)) at (dead-list count (now (b .entry)))) ⌝ }
+    requires { ⌜ (length (now b) ≡ 1024) × (0 < count → count ≡ record-count Dead (now b)) × (count ≤ 1024) × Room (now out) at (dead-list count (now b)) ⌝ }
+    ensures { λ r. ⌜ Wrote (now (out .entry)) at (dead-list count (now (b .entry))) r (now (out .exit)) ⌝ }
 {
     if count == 0 {
         return at;

@@ -46,7 +46,9 @@ switch-join-requires : tie.Need-switch-join-requires
 switch-join-requires c κs = search needs
 
 returns-2 : tie.Need-returns-2
-returns-2 c = finds-across _ (c .before .before .before .before .before .before .before .before .before .before .args .port) _ (c .before .before .if2 .taken) refl (c .switch-join .ensures)
+returns-2 c =
+    let s = c .before .before .before .before .before .before .before .before .before .before in
+    finds-across _ (s .args .port) _ (c .before .before .if2 .taken) refl (c .switch-join .ensures)
 
 shared-slice-read-switch-join-2 : tie.Need-shared-slice-read-switch-join-2
 shared-slice-read-switch-join-2 c = search needs
@@ -55,7 +57,9 @@ switch-join-requires-2 : tie.Need-switch-join-requires-2
 switch-join-requires-2 c κs = search needs
 
 returns-3 : tie.Need-returns-3
-returns-3 c = finds-down _ (c .before .before .before .before .before .before .before .before .before .before .args .port) _ (omega arith) refl (c .switch-join2 .ensures)
+returns-3 c =
+    let s = c .before .before .before .before .before .before .before .before .before .before in
+    finds-down _ (s .args .port) _ (omega arith) refl (c .switch-join2 .ensures)
 
 pub inside-at-spec : {M : Type 1} → statement M
 inside-at-spec =
