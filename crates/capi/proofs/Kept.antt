@@ -9,7 +9,7 @@ use Rattle.repair.specs.declared.Answer.{Answer}
 use Rattle.repair.proofs.Answers.{answers-kept}
 use Rattle.runs.specs.Run.{Ran-as, run-answer, run-links}
 use Rattle.runs.specs.declared.Ran.{Ran}
-use Rattle.capi.specs.Flat.{flat-run, run-of}
+use Rattle.capi.specs.Flat.{flat-run, run-of, Ran-flat}
 use Rattle.capi.specs.declared.ChantsprucePlan.{ChantsprucePlan}
 
 pub flat-kept :
@@ -25,5 +25,5 @@ module _ (g : Given) (r : Ran) {directions places across down : List ℕ} (h : R
   run-kept : r ≡ run-of g
   run-kept = same-run (r .answer) (run-answer g) (r .links) (run-links g) (answers-kept .planner (r .answer) (run-answer g) (h .answers)) (h .counts)
 
-  pub flat-ran : {f : ChantsprucePlan} → f ≡ flat-run r → (f ≡ flat-run (run-of g)) × Ran-as g (run-of g) directions places across down
+  pub flat-ran : {f : ChantsprucePlan} → f ≡ flat-run r → Ran-flat g f directions places across down
   flat-ran e = (e ∙ ap flat-run run-kept, subst (λ (x : Ran). Ran-as g x directions places across down) run-kept h)

@@ -18,7 +18,7 @@ use Rattle.track.specs.declared.Followed.{Followed}
 use Rattle.repair.specs.Operations.{place-cells, route-switches}
 use Rattle.repair.specs.Demand3.{Given, answer, planned-directions}
 use Rattle.repair.specs.declared.Answer.{Answer}
-use Rattle.repair.proofs.Numbered.{plan-repair-numbered, follow-link-numbered}
+use Rattle.repair.proofs.Numbered.{plan-numbered-by, follow-link-numbered}
 use Rattle.runs.specs.Run.{run-test, unless-refused, run-answer, is-repaired, run-links, links-found}
 use Rattle.formats.specs.declared.Kind.the-variants.{Map, Plan}
 use Rattle.formats.specs.declared.Number.{Number}
@@ -104,7 +104,7 @@ unfolding run-answer
 run-kept g =
     answer-kept (run-links g) (run-answer g)
     (unless-numbered (run-test g) (answer g) (map-numbered (g .n) (g .m) _ (g .grid) .numbered)
-    (plan-repair-numbered (g .n) (g .m) (g .grid) (g .directions) (g .limit) .numbered))
+    (plan-numbered-by (g .planner) (g .n) (g .m) (g .grid) (g .directions) (g .limit) .numbered))
 
 -- a run that is refused has found no links
 links-kept : (a : Answer) (k : ℕ) → flat-answer a (cond (is-repaired a) k 0) .links ≡ cond (is-repaired a) k 0
@@ -126,15 +126,15 @@ nothing-lost =
       by-check-fault-list = λ n m grid faults. verdict-kept _ (fault-list-numbered n m grid faults .numbered);
       by-place-cells = places-kept;
       by-route-switches = switches-kept;
-      by-plan-repair = λ n m grid directions limit.
-          answer-kept 0 _ (plan-repair-numbered n m grid directions limit .numbered);
+      by-planner = λ pl n m grid directions limit.
+          answer-kept 0 _ (plan-numbered-by pl n m grid directions limit .numbered);
       by-follow-link = λ w cell side. link-kept _ (follow-link-numbered w cell side .numbered);
-      by-repair-run = run-kept;
+      by-run = run-kept;
       links-of-run = run-links-kept;
       by-read-number = λ s at. number-kept _ (number-numbered s at .numbered);
       by-read-map = λ s grid. head-kept _ (file-numbered Map s grid .numbered);
       by-read-plan = λ s directions. head-kept _ (file-numbered Plan s directions .numbered);
       by-write-map = λ n m grid out. length-kept _ (write-numbered Map n m grid out .numbered);
       by-write-plan = λ n m directions out. length-kept _ (write-numbered Plan n m directions out .numbered);
-      by-report = λ s out. length-kept _ (text-numbered (listing s) out .numbered);
+      by-report = λ pl s out. length-kept _ (text-numbered (listing pl s) out .numbered);
     }

@@ -1,13 +1,15 @@
 -- The answers as flat structs, which C can hold: number 0 and the values of an accepted call, or the refusal with 0 for every value.
 -- Assumes nothing.
 use Prim.Native.Nat.{ℕ}
+use mathlib.Core.Path.{_≡_}
+use mathlib.Core.List.{List}
 use Rattle.array.specs.declared.Verdict.{Verdict}
 use Rattle.trials.specs.declared.Outcome.{Outcome}
 use Rattle.trials.specs.declared.Outcome.the-variants.{Repaired, Beyond, Spent}
 use Rattle.track.specs.declared.Followed.{Followed}
 use Rattle.repair.specs.declared.Answer.{Answer}
 use Rattle.repair.specs.Demand3.{Given}
-use Rattle.runs.specs.Run.{run-answer, run-links}
+use Rattle.runs.specs.Run.{run-answer, run-links, Ran-as}
 use Rattle.runs.specs.declared.Ran.{Ran}
 use Rattle.formats.specs.declared.Number.{Number}
 use Rattle.readers.specs.declared.FileRead.{FileRead}
@@ -52,6 +54,11 @@ run-of g = record { answer = run-answer g; links = run-links g }
 
 abbrev pub flat-run : Ran → ChantsprucePlan
 flat-run r = flat-answer (r .answer) (r .links)
+
+-- a run's flat result, and its promise, which holds of the result itself
+abbrev pub Ran-flat : Given → ChantsprucePlan → List ℕ → List ℕ → List ℕ → List ℕ → Type 0
+Ran-flat g r directions places across down =
+    (r ≡ flat-run (run-of g)) × Ran-as g (run-of g) directions places across down
 
 unfoldable pub flat-link : Followed → ChantspruceLink
 flat-link (follow.Entered l) =

@@ -11,8 +11,9 @@ use Rattle.plans.specs.Check.{check-plan}
 use Rattle.lists.specs.FaultList.{check-fault-list}
 use Rattle.plans.specs.declared.Fault.{Fault}
 use Rattle.track.specs.Ports.{Wafer}
-use Rattle.repair.specs.Operations.{plan-repair, place-cells, route-switches, follow-link}
+use Rattle.repair.specs.Operations.{plan-by, place-cells, route-switches, follow-link}
 use Rattle.repair.specs.Demand3.{Given}
+use Rattle.repair.specs.declared.Planner.{Planner}
 use Rattle.repair.specs.declared.Answer.{Answer}
 use Rattle.runs.specs.Run.{run-answer, run-links}
 use Rattle.formats.specs.Number.{number-at}
@@ -62,7 +63,7 @@ pub record Kept {A B : Type 0} (told : A → Told) (flat : A → B) (tells : B �
   pub numbered : Numbered (told x)
   pub same : tells (flat x) ≡ told x
 
--- of the planner's answer, whatever count of links is returned beside it
+-- of a planner's answer, whatever count of links is returned beside it
 abbrev pub Answer-kept : ℕ → Answer → Type 0
 Answer-kept k a = Kept operations.told (λ (x : Answer). flat-answer x k) plan-tells a
 
@@ -75,10 +76,10 @@ pub record Nothing-lost : Type 0 where
       → Kept tests.told flat-verdict verdict-tells (place-cells n m grid directions places)
   pub by-route-switches : (n m : ℕ) (grid directions across down : List ℕ)
       → Kept tests.told flat-verdict verdict-tells (route-switches n m grid directions across down)
-  pub by-plan-repair : (n m : ℕ) (grid directions : List ℕ) (limit : ℕ)
-      → Answer-kept 0 (plan-repair n m grid directions limit)
+  pub by-planner : (pl : Planner) (n m : ℕ) (grid directions : List ℕ) (limit : ℕ)
+      → Answer-kept 0 (plan-by pl n m grid directions limit)
   pub by-follow-link : (w : Wafer) (cell side : ℕ) → Kept links.told flat-link link-tells (follow-link w cell side)
-  pub by-repair-run : (g : Given) → Answer-kept (run-links g) (run-answer g)
+  pub by-run : (g : Given) → Answer-kept (run-links g) (run-answer g)
   pub links-of-run : (g : Given) → flat-run (run-of g) .links ≡ run-links g
   pub by-read-number : (s : List ℕ) (at : ℕ) → Kept numbers.told flat-number number-tells (number-at s at)
   pub by-read-map : (s grid : List ℕ) → Kept readers.told flat-head head-tells (read-map s grid .0)
@@ -86,4 +87,4 @@ pub record Nothing-lost : Type 0 where
   pub by-write-map : (n m : ℕ) (grid out : List ℕ) → Kept writers.told flat-length length-tells (write-map n m grid out .0)
   pub by-write-plan : (n m : ℕ) (directions out : List ℕ)
       → Kept writers.told flat-length length-tells (write-plan n m directions out .0)
-  pub by-report : (s out : List ℕ) → Kept writers.told flat-length length-tells (reported s out .0)
+  pub by-report : (pl : Planner) (s out : List ℕ) → Kept writers.told flat-length length-tells (reported pl s out .0)

@@ -4,6 +4,7 @@ use formats::Number;
 use plans::Fault;
 use readers::FileRead;
 use repair::Answer;
+use repair::Planner;
 use track::Followed;
 use trials::Outcome;
 use writers::FileWritten;
@@ -12,12 +13,16 @@ ghost use Rattle.formats.specs.Number.{number-at};
 ghost use Rattle.plans.specs.Check.{check-plan};
 ghost use Rattle.lists.specs.FaultList.{check-fault-list};
 ghost use Rattle.track.specs.Ports.{wafer};
-ghost use Rattle.repair.specs.Operations.{plan-repair, directions-after, place-cells, places-after, route-switches, across-after, down-after, follow-link};
-ghost use Rattle.runs.specs.Run.{given, Ran-as};
+ghost use Rattle.repair.specs.Operations.{plan-by, directions-by, plan-repair, directions-after};
+ghost use Rattle.repair.specs.Operations.{plan-quickly, directions-quickly, place-cells, places-after};
+ghost use Rattle.repair.specs.Operations.{route-switches, across-after, down-after, follow-link};
+ghost use Rattle.repair.specs.declared.Planner.the-variants.{Trials, Quick};
+ghost use Rattle.runs.specs.Run.{given};
 ghost use Rattle.readers.specs.Reading.{read-map, read-plan};
 ghost use Rattle.writers.specs.Writing.{write-map, write-plan};
 ghost use Rattle.listing.specs.Listing.{reported};
-ghost use Rattle.capi.specs.Flat.{flat-verdict, planned-as, flat-outcome, flat-answer, flat-run, flat-link, flat-number, flat-head, flat-length, run-of};
+ghost use Rattle.capi.specs.Flat.{flat-verdict, planned-as, flat-outcome, flat-answer, Ran-flat, flat-link};
+ghost use Rattle.capi.specs.Flat.{flat-number, flat-head, flat-length};
 
 // Every struct begins with `number` (0 where the call is accepted, else the number of the refusal), `place` and `second`. The values
 // after them are 0 where the call is refused.
@@ -227,6 +232,51 @@ fn flat_length(a: FileWritten) -> ChantspruceLength
     }
 }
 
+// Inner parts: what is called with either planner.
+
+fn plan_by(
+    planner: Planner,
+    n: usize,
+    m: usize,
+    grid: &[u8],
+    directions: &mut [u8],
+    limit: u32,
+) -> ChantsprucePlan
+    ensures answer { λ r. ⌜ r ≡ flat-answer (plan-by planner n m (now (grid .entry)) (now (directions .entry)) limit) 0 ⌝ }
+    ensures buffer { λ _. ⌜ now (directions .exit)
+        ≡ directions-by planner n m (now (grid .entry)) (now (directions .entry)) limit ⌝ }
+{
+    flat_answer(repair::plan_by(planner, n, m, grid, directions, limit), 0)
+}
+
+fn run_by(
+    planner: Planner,
+    n: usize,
+    m: usize,
+    grid: &[u8],
+    limit: u32,
+    directions: &mut [u8],
+    places: &mut [u16],
+    across: &mut [u8],
+    down: &mut [u8],
+) -> ChantsprucePlan
+    ensures { λ r. ⌜ Ran-flat
+        (given planner n m (now (grid .entry)) limit
+        (now (directions .entry)) (now (places .entry)) (now (across .entry)) (now (down .entry)))
+        r (now (directions .exit)) (now (places .exit)) (now (across .exit)) (now (down .exit)) ⌝ }
+{
+    let ran = runs::run_by(planner, n, m, grid, limit, directions, places, across, down);
+    let answer = ran.answer;
+    flat_answer(answer, ran.links)
+}
+
+fn report_by(planner: Planner, s: &[u8], out: &mut [u8]) -> ChantspruceLength
+    ensures { λ r. ⌜ (r ≡ flat-length (reported planner (now (s .entry)) (now (out .entry)) .0))
+        × (now (out .exit) ≡ reported planner (now (s .entry)) (now (out .entry)) .1) ⌝ }
+{
+    flat_length(listing::report_by(planner, s, out))
+}
+
 // The operations.
 
 #[no_mangle]
@@ -264,7 +314,22 @@ pub extern "C" fn chantspruce_plan_repair(
     ensures answer { λ r. ⌜ r ≡ flat-answer (plan-repair n m (now (grid .entry)) (now (directions .entry)) limit) 0 ⌝ }
     ensures buffer { λ _. ⌜ now (directions .exit) ≡ directions-after n m (now (grid .entry)) (now (directions .entry)) limit ⌝ }
 {
-    flat_answer(repair::plan_repair(n, m, grid, directions, limit), 0)
+    plan_by(Planner::Trials, n, m, grid, directions, limit)
+}
+
+#[no_mangle]
+pub extern "C" fn chantspruce_plan_quickly(
+    n: usize,
+    m: usize,
+    grid: &[u8],
+    directions: &mut [u8],
+    limit: u32,
+) -> ChantsprucePlan
+    ensures answer { λ r. ⌜ r ≡ flat-answer (plan-quickly n m (now (grid .entry)) (now (directions .entry)) limit) 0 ⌝ }
+    ensures buffer { λ _. ⌜ now (directions .exit)
+        ≡ directions-quickly n m (now (grid .entry)) (now (directions .entry)) limit ⌝ }
+{
+    plan_by(Planner::Quick, n, m, grid, directions, limit)
 }
 
 #[no_mangle]
@@ -324,14 +389,51 @@ pub extern "C" fn chantspruce_repair_run(
     across: &mut [u8],
     down: &mut [u8],
 ) -> ChantsprucePlan
-    ensures answer { λ r. ⌜ r ≡ flat-run (run-of (given n m (now (grid .entry)) limit (now (directions .entry)) (now (places .entry)) (now (across .entry)) (now (down .entry)))) ⌝ }
-    ensures run { λ _. ⌜ Ran-as (given n m (now (grid .entry)) limit (now (directions .entry)) (now (places .entry)) (now (across .entry)) (now (down .entry)))
-        (run-of (given n m (now (grid .entry)) limit (now (directions .entry)) (now (places .entry)) (now (across .entry)) (now (down .entry))))
-        (now (directions .exit)) (now (places .exit)) (now (across .exit)) (now (down .exit)) ⌝ }
+    ensures { λ r. ⌜ Ran-flat
+        (given Trials n m (now (grid .entry)) limit
+        (now (directions .entry)) (now (places .entry)) (now (across .entry)) (now (down .entry)))
+        r (now (directions .exit)) (now (places .exit)) (now (across .exit)) (now (down .exit)) ⌝ }
 {
-    let ran = runs::repair_run(n, m, grid, limit, directions, places, across, down);
-    let answer = ran.answer;
-    flat_answer(answer, ran.links)
+    run_by(
+        Planner::Trials,
+        n,
+        m,
+        grid,
+        limit,
+        directions,
+        places,
+        across,
+        down,
+    )
+}
+
+#[no_mangle]
+pub extern "C" fn chantspruce_run_quickly(
+    n: usize,
+    m: usize,
+    grid: &[u8],
+    limit: u32,
+    directions: &mut [u8],
+    places: &mut [u16],
+    across: &mut [u8],
+    down: &mut [u8],
+) -> ChantsprucePlan
+    ensures { λ r. ⌜ Ran-flat
+        (given Quick n m (now (grid .entry)) limit
+        (now (directions .entry)) (now (places .entry)) (now (across .entry)) (now (down .entry)))
+        r (now (directions .exit)) (now (places .exit)) (now (across .exit)) (now (down .exit)) ⌝ }
+{
+    run_by(
+        Planner::Quick,
+        n,
+        m,
+        grid,
+        limit,
+        directions,
+        places,
+        across,
+        down,
+    )
 }
 
 #[no_mangle]
@@ -381,7 +483,16 @@ pub extern "C" fn chantspruce_write_plan(
 
 #[no_mangle]
 pub extern "C" fn chantspruce_report(s: &[u8], out: &mut [u8]) -> ChantspruceLength
-    ensures { λ r. ⌜ (r ≡ flat-length (reported (now (s .entry)) (now (out .entry)) .0)) × (now (out .exit) ≡ reported (now (s .entry)) (now (out .entry)) .1) ⌝ }
+    ensures { λ r. ⌜ (r ≡ flat-length (reported Trials (now (s .entry)) (now (out .entry)) .0))
+        × (now (out .exit) ≡ reported Trials (now (s .entry)) (now (out .entry)) .1) ⌝ }
 {
-    flat_length(listing::report(s, out))
+    report_by(Planner::Trials, s, out)
+}
+
+#[no_mangle]
+pub extern "C" fn chantspruce_report_quickly(s: &[u8], out: &mut [u8]) -> ChantspruceLength
+    ensures { λ r. ⌜ (r ≡ flat-length (reported Quick (now (s .entry)) (now (out .entry)) .0))
+        × (now (out .exit) ≡ reported Quick (now (s .entry)) (now (out .entry)) .1) ⌝ }
+{
+    report_by(Planner::Quick, s, out)
 }

@@ -68,9 +68,12 @@ fn say_outcome(o: Outcome) {
     }
 }
 
-fn plan_into(s: Setup, grid: &[u8], limit: u32, out: &mut [u8]) -> Answer {
+fn plan_into(s: Setup, quick: bool, grid: &[u8], limit: u32, out: &mut [u8]) -> Answer {
     let g = lent(s.grid, grid);
     let d = lent(s.directions, out);
+    if quick {
+        return repair::plan_quickly(s.n, s.m, &grid[..g], &mut out[..d], limit);
+    }
     repair::plan_repair(s.n, s.m, &grid[..g], &mut out[..d], limit)
 }
 
@@ -86,9 +89,9 @@ fn say_plan(s: Setup, a: Answer, out: &[u8], directions: &mut [u8]) {
     }
 }
 
-pub fn plan(s: Setup, grid: &[u8], limit: u32, directions: &mut [u8]) {
+pub fn plan(s: Setup, quick: bool, grid: &[u8], limit: u32, directions: &mut [u8]) {
     let mut out = [show::MARK; 1025];
-    let a = plan_into(s, grid, limit, &mut out);
+    let a = plan_into(s, quick, grid, limit, &mut out);
     say_plan(s, a, &out, directions);
 }
 
@@ -198,8 +201,27 @@ pub fn follow(
     ));
 }
 
+// A run by either planner.
+fn run_by(
+    quick: bool,
+    n: usize,
+    m: usize,
+    grid: &[u8],
+    limit: u32,
+    directions: &mut [u8],
+    places: &mut [u16],
+    across: &mut [u8],
+    down: &mut [u8],
+) -> Ran {
+    if quick {
+        return runs::run_quickly(n, m, grid, limit, directions, places, across, down);
+    }
+    runs::repair_run(n, m, grid, limit, directions, places, across, down)
+}
+
 fn run_into(
     s: Setup,
+    quick: bool,
     grid: &[u8],
     limit: u32,
     directions: &mut [u8],
@@ -212,7 +234,8 @@ fn run_into(
     let p = lent_places(s.places, places);
     let a = lent(s.across, across);
     let w = lent(s.down, down);
-    runs::repair_run(
+    run_by(
+        quick,
         s.n,
         s.m,
         &grid[..g],
@@ -262,13 +285,14 @@ fn say_run(s: Setup, r: Ran, directions: &[u8], places: &[u16], across: &[u8], d
     }
 }
 
-pub fn run(s: Setup, grid: &[u8], limit: u32) {
+pub fn run(s: Setup, quick: bool, grid: &[u8], limit: u32) {
     let mut directions = [show::MARK; 1025];
     let mut places = [show::PLACE_MARK; 1025];
     let mut across = [show::MARK; 1025];
     let mut down = [show::MARK; 1025];
     let r = run_into(
         s,
+        quick,
         grid,
         limit,
         &mut directions,
@@ -422,15 +446,18 @@ pub fn write_plan(s: Setup, directions: &[u8], length: usize, file: &mut [u8]) -
     say_written(s, a, &out, file)
 }
 
-fn report_into(s: Setup, file: &[u8], length: usize, out: &mut [u8]) -> FileWritten {
+fn report_into(s: Setup, quick: bool, file: &[u8], length: usize, out: &mut [u8]) -> FileWritten {
     let f = lent(s.file, file);
     let k = lent(length, out);
+    if quick {
+        return listing::report_quickly(&file[..f], &mut out[..k]);
+    }
     listing::report(&file[..f], &mut out[..k])
 }
 
-pub fn list(s: Setup, file: &[u8], length: usize) {
+pub fn list(s: Setup, quick: bool, file: &[u8], length: usize) {
     let mut out = [show::MARK; 4096];
-    match report_into(s, file, length, &mut out) {
+    match report_into(s, quick, file, length, &mut out) {
         FileWritten::Length(k) => {
             say_length(k);
             show::show_text(&out, k);

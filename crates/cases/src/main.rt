@@ -70,6 +70,24 @@ fn setting_of(line: &[u8]) -> Setting {
     Setting::Other
 }
 
+// Whether a call is for the quick planner: its second word is "quickly".
+fn is_quick(line: &[u8]) -> bool {
+    words::is_word(line, 1, b"quickly")
+}
+
+// Where the number of a call that plans stands.
+fn number_at(line: &[u8]) -> usize {
+    if is_quick(line) { 2 } else { 1 }
+}
+
+// Whether a line has this word, for either planner, and a number.
+fn plans(line: &[u8], name: &[u8]) -> bool {
+    if is_quick(line) {
+        return words::is_word(line, 0, name) & words::has_words(line, 3);
+    }
+    words::is_word(line, 0, name) & words::has_words(line, 2)
+}
+
 fn call_of(line: &[u8]) -> Call {
     if words::is_word(line, 0, b"check") & words::has_words(line, 1) {
         return Call::Check;
@@ -83,16 +101,16 @@ fn call_of(line: &[u8]) -> Call {
     if words::is_word(line, 0, b"route") & words::has_words(line, 1) {
         return Call::Route;
     }
-    if words::is_word(line, 0, b"plan") & words::has_words(line, 2) {
+    if plans(line, b"plan") {
         return Call::Plan;
     }
-    if words::is_word(line, 0, b"run") & words::has_words(line, 2) {
+    if plans(line, b"run") {
         return Call::Run;
     }
     if words::is_word(line, 0, b"number") & words::has_words(line, 2) {
         return Call::Number;
     }
-    if words::is_word(line, 0, b"list") & words::has_words(line, 2) {
+    if plans(line, b"list") {
         return Call::List;
     }
     if words::is_word(line, 0, b"follow") & words::has_words(line, 3) {
@@ -128,7 +146,7 @@ fn fail() {
 }
 
 fn call_plan(line: &[u8], s: Setup, grid: &[u8], directions: &mut [u8]) {
-    let limit = words::number(line, 1);
+    let limit = words::number(line, number_at(line));
     if !limit.ok {
         fail();
         return;
@@ -137,11 +155,11 @@ fn call_plan(line: &[u8], s: Setup, grid: &[u8], directions: &mut [u8]) {
         fail();
         return;
     }
-    calls::plan(s, grid, limit.value as u32, directions);
+    calls::plan(s, is_quick(line), grid, limit.value as u32, directions);
 }
 
 fn call_run(line: &[u8], s: Setup, grid: &[u8]) {
-    let limit = words::number(line, 1);
+    let limit = words::number(line, number_at(line));
     if !limit.ok {
         fail();
         return;
@@ -150,7 +168,7 @@ fn call_run(line: &[u8], s: Setup, grid: &[u8]) {
         fail();
         return;
     }
-    calls::run(s, grid, limit.value as u32);
+    calls::run(s, is_quick(line), grid, limit.value as u32);
 }
 
 fn call_follow(line: &[u8], s: Setup, grid: &[u8], directions: &[u8], across: &[u8], down: &[u8]) {
@@ -178,9 +196,9 @@ fn is_room(v: words::Value) -> bool {
 }
 
 fn call_list(line: &[u8], s: Setup, file: &[u8]) {
-    let length = words::number(line, 1);
+    let length = words::number(line, number_at(line));
     if is_room(length) {
-        calls::list(s, file, length.value);
+        calls::list(s, is_quick(line), file, length.value);
     } else {
         fail();
     }

@@ -18,15 +18,29 @@ fn outcome_of(o: Outcome) -> Planned {
     }
 }
 
-// The planner's answer; outcome 3 where it refuses.
-pub fn planned(n: usize, m: usize, grid: &[u8], directions: &mut [u8], limit: u32) -> Planned {
-    match repair::plan_repair(n, m, grid, directions, limit) {
+// A planner's answer; outcome 3 where it refuses.
+fn answer_of(a: Answer) -> Planned {
+    match a {
         Answer::Planned(o) => outcome_of(o),
         Answer::Refused(_) => Planned {
             outcome: 3,
             count: 0,
         },
     }
+}
+
+pub fn planned(n: usize, m: usize, grid: &[u8], directions: &mut [u8], limit: u32) -> Planned {
+    answer_of(repair::plan_repair(n, m, grid, directions, limit))
+}
+
+pub fn planned_quickly(
+    n: usize,
+    m: usize,
+    grid: &[u8],
+    directions: &mut [u8],
+    limit: u32,
+) -> Planned {
+    answer_of(repair::plan_quickly(n, m, grid, directions, limit))
 }
 
 fn finding_of(v: Verdict) -> Finding {

@@ -85,6 +85,34 @@ pub const ENDS: usize = 38;
 
 pub const END: usize = 39;
 
+// The quick planner's outcomes and trials, and how often it decides where the first planner is spent.
+pub const QUICK_REPAIRED: usize = 40;
+
+pub const QUICK_BEYOND: usize = 41;
+
+pub const QUICK_SPENT: usize = 42;
+
+pub const QUICK_TRIALS: usize = 43;
+
+pub const QUICK_ONLY: usize = 44;
+
+// Maps on which nothing can be settled, by outcome.
+pub const CORES_REPAIRED: usize = 45;
+
+pub const CORES_BEYOND: usize = 46;
+
+pub const CORES_SPENT: usize = 47;
+
+// What differs about the quick planner: verdicts, what it writes, and the answer where nothing can be settled.
+pub const VERDICT: usize = 48;
+
+pub const QUICK_PLAN: usize = 49;
+
+pub const CORE: usize = 50;
+
+// How often the first planner decides where the quick one is spent.
+pub const FIRST_ONLY: usize = 51;
+
 pub fn get(tally: &[u64], what: usize) -> u64 {
     if what < tally.len() { tally[what] } else { 0 }
 }
@@ -165,6 +193,18 @@ fn print_plans(tally: &[u64]) {
     print_count(tally, b"spent with a dead processor", DEAD_SPENT);
 }
 
+fn print_quick(tally: &[u64]) {
+    print_count(tally, b"quickly repaired", QUICK_REPAIRED);
+    print_count(tally, b"quickly beyond", QUICK_BEYOND);
+    print_count(tally, b"quickly spent", QUICK_SPENT);
+    print_count(tally, b"quick trials", QUICK_TRIALS);
+    print_count(tally, b"decided by the quick planner alone", QUICK_ONLY);
+    print_count(tally, b"decided by the first planner alone", FIRST_ONLY);
+    print_count(tally, b"repaired with nothing settled", CORES_REPAIRED);
+    print_count(tally, b"beyond with nothing settled", CORES_BEYOND);
+    print_count(tally, b"spent with nothing settled", CORES_SPENT);
+}
+
 fn print_track(tally: &[u64]) {
     print_count(tally, b"cells placed", CELLS);
     print_count(tally, b"switches at a", LETTERS_A);
@@ -201,6 +241,12 @@ fn print_plan_kinds(tally: &[u64]) {
     print_kind(tally, b"plan checks", CHECK);
 }
 
+fn print_quick_kinds(tally: &[u64]) {
+    print_kind(tally, b"verdicts of the two planners", VERDICT);
+    print_kind(tally, b"quick plans", QUICK_PLAN);
+    print_kind(tally, b"answers with nothing settled", CORE);
+}
+
 fn print_track_kinds(tally: &[u64]) {
     print_kind(tally, b"placements", PLACEMENT);
     print_kind(tally, b"seats", SEATS);
@@ -215,9 +261,11 @@ fn print_track_kinds(tally: &[u64]) {
 // Prints every count on its own line.
 pub fn print(tally: &[u64]) {
     print_plans(tally);
+    print_quick(tally);
     print_track(tally);
     print_checks(tally);
     print_plan_kinds(tally);
+    print_quick_kinds(tally);
     print_track_kinds(tally);
     print_count(tally, b"differences", DIFFERENCES);
 }

@@ -3,6 +3,7 @@ mod answers;
 mod counts;
 mod files;
 mod planning;
+mod quick;
 mod random;
 mod repaired;
 
@@ -46,8 +47,42 @@ fn cross_repair(
     cross_repaired(found, seed, n, m, grid, directions, marks, tally);
 }
 
+// What follows where the quick planner repairs a map.
+fn cross_found(
+    found: bool,
+    n: usize,
+    m: usize,
+    grid: &[u8],
+    directions: &[u8],
+    marks: &mut [u32],
+    tally: &mut [u64],
+) {
+    if !found {
+        return;
+    }
+    planning::cross_check(n, m, grid, directions, tally);
+    repaired::cross_track(n, m, grid, directions, marks, tally);
+}
+
+// The quick planner, and where it is asked for the rest of a repair by its plan.
+fn cross_quickly(
+    tracked: bool,
+    n: usize,
+    m: usize,
+    limit: u32,
+    grid: &[u8],
+    marks: &mut [u32],
+    tally: &mut [u64],
+) {
+    let mut directions = [9u8; 1024];
+    let found = quick::cross_verdict(n, m, grid, limit, &mut directions, tally);
+    quick::cross_written(found, n, m, grid, &directions, tally);
+    cross_found(found & tracked, n, m, grid, &directions, marks, tally);
+}
+
 // What needs no plan.
-fn cross_others(seed: &mut u64, n: usize, m: usize, grid: &[u8], tally: &mut [u64]) {
+fn cross_others(seed: &mut u64, n: usize, m: usize, limit: u32, grid: &[u8], tally: &mut [u64]) {
+    quick::cross_core(n, m, grid, limit, tally);
     planning::cross_choice(seed, n, m, grid, tally);
     planning::cross_choice(seed, n, m, grid, tally);
     files::cross_map(n, m, grid, tally);
@@ -67,6 +102,7 @@ fn cross_map(
     n: usize,
     m: usize,
     limit: u32,
+    tracked: bool,
     grid: &[u8],
     directions: &mut [u8],
     marks: &mut [u32],
@@ -75,7 +111,8 @@ fn cross_map(
     let before = counts::get(tally, counts::DIFFERENCES);
     count_map(grid, tally);
     cross_repair(seed, n, m, limit, grid, directions, marks, tally);
-    cross_others(seed, n, m, grid, tally);
+    cross_quickly(tracked, n, m, limit, grid, marks, tally);
+    cross_others(seed, n, m, limit, grid, tally);
     counts::show(tally, before, n, m, grid);
 }
 
@@ -87,8 +124,19 @@ fn cross_size(start: u64, i: usize, marks: &mut [u32], tally: &mut [u64]) {
     let n = random::draw_size(&mut seed, i);
     let m = random::draw_size(&mut seed, i);
     let limit = random::limit_of(i);
+    let tracked = i % 6 == 1;
     random::fill_map(&mut seed, n, m, &mut grid);
-    cross_map(&mut seed, n, m, limit, &grid, &mut directions, marks, tally);
+    cross_map(
+        &mut seed,
+        n,
+        m,
+        limit,
+        tracked,
+        &grid,
+        &mut directions,
+        marks,
+        tally,
+    );
 }
 
 fn cross_all(marks: &mut [u32], tally: &mut [u64]) {

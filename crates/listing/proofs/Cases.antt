@@ -7,7 +7,8 @@ use Rattle.array.specs.Buffer.{zeros}
 use Rattle.array.specs.declared.Refusal.{Refusal}
 use Rattle.trials.specs.declared.Outcome.{Outcome}
 use Rattle.trials.specs.declared.Outcome.the-variants.{Repaired, Beyond, Spent}
-use Rattle.repair.specs.Operations.{plan-repair, directions-after}
+use Rattle.repair.specs.Operations.{plan-by, directions-by}
+use Rattle.repair.specs.declared.Planner.{Planner}
 use Rattle.repair.specs.declared.Answer.{Answer}
 use Rattle.repair.proofs.Answers.{answers-kept}
 use Rattle.repair.specs.declared.Answer.the-variants as answer
@@ -19,7 +20,10 @@ use Rattle.readers.specs.Reading as reading
 use Rattle.readers.proofs.Answers.{read-kept}
 use Rattle.readers.specs.declared.FileRead.the-variants as reader
 use Rattle.writers.proofs.Runs.{Splits, splits}
-use Rattle.listing.specs.Listing.{along, field, line, newline, fault-bytes, seat-bytes, letter-bytes, switch-line, plan-lines, across-word, down-word, repaired-word, beyond-word, spent-word, repair-lines, outcome-lines, refusal-line, head-line, limit, map-lines, file-lines, listing}
+use Rattle.listing.specs.Listing.{along, field, line, newline, fault-bytes, seat-bytes, letter-bytes, switch-line}
+use Rattle.listing.specs.Listing.{across-word, down-word, repaired-word, beyond-word, spent-word}
+use Rattle.listing.specs.Listing.{plan-lines, repair-lines, outcome-lines, refusal-line, head-line, limit}
+use Rattle.listing.specs.Listing.{map-lines, planned-lines, file-lines, listing}
 
 -- the first part of a line, and of the lines of a plan
 pub line-first : (word values end : List ℕ) → Splits (line word values end) word (along field 0 values ++ end)
@@ -55,42 +59,42 @@ module _ (n m : ℕ) (grid directions : List ℕ) {o : Outcome} {t : ℕ} where
   outcome-spent e = rw e refl
 
 -- The planner answered r for blank directions, and left directions′.
-module _ (head : Head) (grid : List ℕ) (r : Answer) {directions directions′ : List ℕ} (b : directions ≡ zeros)
-    (e : repair.told r ≡ repair.told (plan-repair (head .rows) (head .columns) grid directions limit))
-    (d : directions′ ≡ directions-after (head .rows) (head .columns) grid directions limit) where
-  answer-is : plan-repair (head .rows) (head .columns) grid zeros limit ≡ r
+module _ (pl : Planner) (head : Head) (grid : List ℕ) (r : Answer) {directions directions′ : List ℕ}
+    (b : directions ≡ zeros)
+    (e : repair.told r ≡ repair.told (plan-by pl (head .rows) (head .columns) grid directions limit))
+    (d : directions′ ≡ directions-by pl (head .rows) (head .columns) grid directions limit) where
+  answer-is : plan-by pl (head .rows) (head .columns) grid zeros limit ≡ r
   answer-is =
-      sym (answers-kept .planner r (plan-repair (head .rows) (head .columns) grid directions limit) e
-      ∙ ap (λ (x : List ℕ). plan-repair (head .rows) (head .columns) grid x limit) b)
+      sym (answers-kept .planner r (plan-by pl (head .rows) (head .columns) grid directions limit) e
+      ∙ ap (λ (x : List ℕ). plan-by pl (head .rows) (head .columns) grid x limit) b)
 
-  directions-are : directions-after (head .rows) (head .columns) grid zeros limit ≡ directions′
-  directions-are = sym (d ∙ ap (λ (x : List ℕ). directions-after (head .rows) (head .columns) grid x limit) b)
+  directions-are : directions-by pl (head .rows) (head .columns) grid zeros limit ≡ directions′
+  directions-are = sym (d ∙ ap (λ (x : List ℕ). directions-by pl (head .rows) (head .columns) grid x limit) b)
 
   pub map-planned :
       {o : Outcome} → r ≡ answer.Planned o
-      → Splits (map-lines head grid (plan-repair (head .rows) (head .columns) grid zeros limit)) (head-line head)
+      → Splits (planned-lines pl head grid) (head-line head)
       (outcome-lines (head .rows) (head .columns) grid directions′ o)
   unfolding map-lines
   map-planned h = record { is = rw (answer-is, h, directions-are) refl }
 
-  pub map-refused : {s : Refusal} → r ≡ answer.Refused s → map-lines head grid (plan-repair (head .rows) (head .columns) grid zeros limit) ≡ refusal-line s
+  pub map-refused : {s : Refusal} → r ≡ answer.Refused s → planned-lines pl head grid ≡ refusal-line s
   unfolding map-lines
   map-refused h = rw (answer-is, h) refl
 
 -- The reader answered r for a blank grid, and left grid′.
-module _ (s : List ℕ) (r : FileRead) {grid grid′ : List ℕ} (b : grid ≡ zeros) (e : reading.told r ≡ reading.told (read-map s grid .0))
-    (d : grid′ ≡ read-map s grid .1) where
+module _ (pl : Planner) (s : List ℕ) (r : FileRead) {grid grid′ : List ℕ} (b : grid ≡ zeros)
+    (e : reading.told r ≡ reading.told (read-map s grid .0)) (d : grid′ ≡ read-map s grid .1) where
   read-is : read-map s zeros ≡ (r, grid′)
   read-is = ap (λ (x : List ℕ). read-map s x) (sym b) ∙ sym (pair-is (read-map s grid) (read-kept r (read-map s grid .0) e) d)
     where
       pair-is : (x : FileRead × List ℕ) → r ≡ x .0 → grid′ ≡ x .1 → (r, grid′) ≡ x
       pair-is (y, z) h g = rw (h, g) refl
 
-  pub file-read :
-      {head : Head} → r ≡ reader.File head → listing s ≡ map-lines head grid′ (plan-repair (head .rows) (head .columns) grid′ zeros limit)
+  pub file-read : {head : Head} → r ≡ reader.File head → listing pl s ≡ planned-lines pl head grid′
   unfolding listing file-lines
   file-read h = rw (read-is, h) refl
 
-  pub file-refused : {x : Refusal} → r ≡ reader.Refused x → listing s ≡ refusal-line x
+  pub file-refused : {x : Refusal} → r ≡ reader.Refused x → listing pl s ≡ refusal-line x
   unfolding listing file-lines
   file-refused h = rw (read-is, h) refl

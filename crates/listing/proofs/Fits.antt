@@ -22,7 +22,9 @@ use Rattle.array.proofs.Fills.{tabulate-at}
 use Rattle.trials.specs.declared.Outcome.{Outcome}
 use Rattle.trials.specs.declared.Outcome.the-variants.{Repaired, Beyond, Spent}
 use Rattle.track.specs.Placement.{placement}
-use Rattle.repair.specs.Operations.{plan-repair, directions-after, place-cells, places-after, across-after, down-after, answer-after}
+use Rattle.repair.specs.Operations.{plan-by, directions-by, answer-after}
+use Rattle.repair.specs.Operations.{place-cells, places-after, across-after, down-after}
+use Rattle.repair.specs.declared.Planner.{Planner}
 use Rattle.repair.specs.declared.Answer.{Answer}
 use Rattle.repair.proofs.Cells.{cell-low, placement-at, seat-low}
 use Rattle.readers.specs.Reading.{read-map}
@@ -248,28 +250,32 @@ planned-accepted Accepted o p h = refl
 planned-accepted (Refused r) o p h = let z : _≡_ {A = ℕ} 0 1 = cc in absurd (omega arith)
 
 planned-map :
-    (n m : ℕ) (grid : List ℕ) (o : Outcome) → plan-repair n m grid zeros limit ≡ answer.Planned o → Accepted-map n m (all-long (grid ∷ zeros ∷ [])) grid
-unfolding plan-repair
-planned-map n m grid o h = map-accepted n m (all-long (grid ∷ zeros ∷ [])) grid (planned-accepted _ _ o h)
+    (pl : Planner) (n m : ℕ) (grid : List ℕ) (o : Outcome) → plan-by pl n m grid zeros limit ≡ answer.Planned o →
+    Accepted-map n m (all-long (grid ∷ zeros ∷ [])) grid
+unfolding plan-by
+planned-map pl n m grid o h = map-accepted n m (all-long (grid ∷ zeros ∷ [])) grid (planned-accepted _ _ o h)
 
-map-short : (head : Head) (grid : List ℕ) (a : Answer) → plan-repair (head .rows) (head .columns) grid zeros limit ≡ a → length (map-lines head grid a) ≤ 32768
+map-short :
+    (pl : Planner) (head : Head) (grid : List ℕ) (a : Answer) →
+    plan-by pl (head .rows) (head .columns) grid zeros limit ≡ a → length (map-lines pl head grid a) ≤ 32768
 unfolding map-lines
-map-short head grid (answer.Planned o) h =
-    let a = planned-map (head .rows) (head .columns) grid o h in
-    let d = directions-after (head .rows) (head .columns) grid zeros limit in
+map-short pl head grid (answer.Planned o) h =
+    let a = planned-map pl (head .rows) (head .columns) grid o h in
+    let d = directions-by pl (head .rows) (head .columns) grid zeros limit in
     omega (
       arith,
       length-append (head-line head) (outcome-lines (head .rows) (head .columns) grid d o),
       head-short head,
       outcome-short (head .rows) (head .columns) grid d (a .sizes) (eqb-true _ _ (and-true (long grid) _ (a .lengths) .0)) o,
     )
-map-short head grid (answer.Refused r) h = omega (arith, refusal-short r)
+map-short pl head grid (answer.Refused r) h = omega (arith, refusal-short r)
 
-file-short : (x : FileRead × List ℕ) → length (file-lines x) ≤ 32768
+file-short : (pl : Planner) (x : FileRead × List ℕ) → length (file-lines pl x) ≤ 32768
 unfolding file-lines
-file-short (reader.File head, grid) = map-short head grid (plan-repair (head .rows) (head .columns) grid zeros limit) refl
-file-short (reader.Refused r, grid) = omega (arith, refusal-short r)
+file-short pl (reader.File head, grid) =
+    map-short pl head grid (plan-by pl (head .rows) (head .columns) grid zeros limit) refl
+file-short pl (reader.Refused r, grid) = omega (arith, refusal-short r)
 
 pub listing-fits : Listing-fits
 unfolding listing
-listing-fits s = file-short (read-map s zeros)
+listing-fits pl s = file-short pl (read-map s zeros)

@@ -11,9 +11,9 @@ use Rattle.array.specs.Map.{well-formed}
 use Rattle.array.specs.declared.Verdict.the-variants.{Accepted}
 use Rattle.array.proofs.Fills.{tabulate-length}
 use Rattle.array.proofs.Formed.{formed-lent, grid-and}
-use Rattle.plans.specs.Faults.{faults}
-use Rattle.trials.specs.Search.{planned, outcome, directions-written}
-use Rattle.repair.specs.Operations.{plan-repair-test, plan-repair, directions-after}
+use Rattle.trials.specs.Search.{outcome, directions-written}
+use Rattle.repair.specs.Operations.{kept-by, left-by, planned-by, planner-test, plan-by, directions-by}
+use Rattle.repair.specs.declared.Planner.{Planner}
 use Rattle.repair.specs.declared.Answer.the-variants as answer
 use Rattle.formats.specs.declared.Kind.the-variants.{Map}
 use Rattle.writers.specs.Writing.{buffer-test}
@@ -25,22 +25,25 @@ unfolding buffer-test
 formed-map n m grid h = h
 
 -- the planner's tests of a well-formed map with blank directions
-tested : (n m : ℕ) (grid : List ℕ) → well-formed n m grid ≡ Accepted → plan-repair-test n m grid zeros ≡ Accepted
+tested : (n m : ℕ) (grid : List ℕ) → well-formed n m grid ≡ Accepted → planner-test n m grid zeros ≡ Accepted
 tested n m grid h =
     formed-lent n m grid (long grid && (long zeros && true)) h
     (grid-and n m grid (long zeros && true) h (rw (eq-eqb (length zeros) 1024 (tabulate-length nothing-at 1024)) refl))
 
-module _ (n m : ℕ) (grid : List ℕ) (h : plan-repair-test n m grid zeros ≡ Accepted) where
-  answered : plan-repair n m grid zeros limit ≡ answer.Planned (outcome limit (planned n m grid))
-  unfolding plan-repair
+module _ (pl : Planner) (n m : ℕ) (grid : List ℕ) (h : planner-test n m grid zeros ≡ Accepted) where
+  answered : plan-by pl n m grid zeros limit ≡ answer.Planned (outcome limit (planned-by pl n m grid))
+  unfolding plan-by
   answered = rw h refl
 
-  written-is : directions-after n m grid zeros limit ≡ directions-written limit (faults n m grid) (planned n m grid)
-  unfolding directions-after
+  written-is : directions-by pl n m grid zeros limit
+      ≡ directions-written limit (kept-by pl n m grid) (left-by pl n m grid) (planned-by pl n m grid)
+  unfolding directions-by
   written-is = rw h refl
 
 pub maps-listed : Maps-listed
 unfolding listing file-lines map-lines
-maps-listed s grid head q =
-    let t = tested (head .rows) (head .columns) grid (formed-map (head .rows) (head .columns) grid (sound-reading Map s zeros grid head q .fit)) in
-    rw (q, answered (head .rows) (head .columns) grid t, written-is (head .rows) (head .columns) grid t) refl
+maps-listed pl s grid head q =
+    let n = head .rows in
+    let m = head .columns in
+    let t = tested n m grid (formed-map n m grid (sound-reading Map s zeros grid head q .fit)) in
+    rw (q, answered pl n m grid t, written-is pl n m grid t) refl

@@ -1,5 +1,5 @@
--- Document 01, "The bench program": the bytes of the listing of a map file, from the bytes of the file alone.
--- Assumes nothing.
+-- Document 01, "The bench program": the bytes of the listing of a map file, from the bytes of the file alone; with either
+-- planner (document 02, T-05). Assumes nothing.
 use Prim.Native.Nat.{ℕ, zero, suc, _+_, _/_, _%_, _≤_}
 use mathlib.Core.Path.{_≡_}
 use mathlib.Core.Bool.{cond}
@@ -11,11 +11,12 @@ use Rattle.array.specs.Buffer.{zeros}
 use Rattle.array.specs.Map.{inner-faulty}
 use Rattle.array.specs.declared.Refusal.{Refusal}
 use Rattle.paths.specs.Path.{by-direction}
-use Rattle.plans.specs.Faults.{faults}
-use Rattle.trials.specs.Search.{planned, outcome, directions-written}
+use Rattle.trials.specs.Search.{outcome, directions-written}
 use Rattle.trials.specs.declared.Outcome.{Outcome}
 use Rattle.trials.specs.declared.Outcome.the-variants.{Repaired, Beyond, Spent}
-use Rattle.repair.specs.Operations.{plan-repair, directions-after, places-after, across-after, down-after}
+use Rattle.repair.specs.Operations.{kept-by, left-by, planned-by, plan-by, directions-by}
+use Rattle.repair.specs.Operations.{places-after, across-after, down-after}
+use Rattle.repair.specs.declared.Planner.{Planner}
 use Rattle.repair.specs.declared.Answer.{Answer}
 use Rattle.repair.specs.declared.Answer.the-variants as answer
 use Rattle.readers.specs.Reading.{read-map}
@@ -141,35 +142,45 @@ abbrev pub limit : ℕ
 limit = 1000000
 
 -- a map that was read, by the planner's answer; blank buffers are lent
-unfoldable pub map-lines : Head → List ℕ → Answer → List ℕ
-map-lines head grid (answer.Planned o) =
+unfoldable pub map-lines : Planner → Head → List ℕ → Answer → List ℕ
+map-lines pl head grid (answer.Planned o) =
     head-line head
-    ++ outcome-lines (head .rows) (head .columns) grid (directions-after (head .rows) (head .columns) grid zeros limit) o
-map-lines head grid (answer.Refused r) = refusal-line r
+    ++ outcome-lines (head .rows) (head .columns) grid (directions-by pl (head .rows) (head .columns) grid zeros limit) o
+map-lines pl head grid (answer.Refused r) = refusal-line r
+
+-- the same with what the planner does answer
+abbrev pub planned-lines : Planner → Head → List ℕ → List ℕ
+planned-lines pl head grid = map-lines pl head grid (plan-by pl (head .rows) (head .columns) grid zeros limit)
 
 -- a map file, by what the reader answers
-unfoldable pub file-lines : FileRead × List ℕ → List ℕ
-file-lines (reader.File head, grid) = map-lines head grid (plan-repair (head .rows) (head .columns) grid zeros limit)
-file-lines (reader.Refused r, grid) = refusal-line r
+unfoldable pub file-lines : Planner → FileRead × List ℕ → List ℕ
+file-lines pl (reader.File head, grid) = planned-lines pl head grid
+file-lines pl (reader.Refused r, grid) = refusal-line r
 
 -- the listing of a map file
-unfoldable pub listing : List ℕ → List ℕ
-listing s = file-lines (read-map s zeros)
+unfoldable pub listing : Planner → List ℕ → List ℕ
+listing pl s = file-lines pl (read-map s zeros)
 
--- what `report` answers, with the buffer afterwards: the listing's length, the bytes after it kept; 14 where there is no room
-abbrev pub reported : List ℕ → List ℕ → FileWritten × List ℕ
-reported s out = put (room-test (listing s) out) (listing s) out
+-- what `report` and `report_quickly` answer, with the buffer afterwards: the listing's length, the bytes after it kept;
+-- 14 where there is no room
+abbrev pub reported : Planner → List ℕ → List ℕ → FileWritten × List ℕ
+reported pl s out = put (room-test (listing pl s) out) (listing pl s) out
 
 -- the statement that a buffer of 32,768 bytes has room for every listing
 abbrev pub Listing-fits : Type 0
-Listing-fits = (s : List ℕ) → length (listing s) ≤ 32768
+Listing-fits = (pl : Planner) (s : List ℕ) → length (listing pl s) ≤ 32768
+
+-- the lines of a map by the trials that its planner makes
+abbrev pub trial-lines : Planner → Head → List ℕ → List ℕ
+trial-lines pl head grid =
+    let n = head .rows in
+    let m = head .columns in
+    outcome-lines n m grid
+    (directions-written limit (kept-by pl n m grid) (left-by pl n m grid) (planned-by pl n m grid))
+    (outcome limit (planned-by pl n m grid))
 
 -- the statement that a map that was read is planned, never refused: its lines are the first one and those of the trials' outcome
 abbrev pub Maps-listed : Type 0
 Maps-listed =
-    (s grid : List ℕ) (head : Head) → read-map s zeros ≡ (reader.File head, grid)
-    → listing s
-    ≡ head-line head
-    ++ outcome-lines (head .rows) (head .columns) grid
-    (directions-written limit (faults (head .rows) (head .columns) grid) (planned (head .rows) (head .columns) grid))
-    (outcome limit (planned (head .rows) (head .columns) grid))
+    (pl : Planner) (s grid : List ℕ) (head : Head) → read-map s zeros ≡ (reader.File head, grid)
+    → listing pl s ≡ head-line head ++ trial-lines pl head grid

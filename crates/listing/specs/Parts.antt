@@ -1,9 +1,9 @@
 -- What the parts of the listing are written under.
 -- Assumes nothing.
 use mathlib.Core.Path.{_≡_}
-use Prim.Native.Nat.{ℕ}
+use Prim.Native.Nat.{ℕ, _≤_}
 use mathlib.Core.List.{List}
-use lib.ListN.{length}
+use lib.ListN.{length, take}
 use Rattle.array.specs.Buffer.{zeros}
 
 -- the buffers of a plan are all 1,024 long
@@ -21,3 +21,8 @@ pub record Lent (grid directions places across down : List ℕ) : Type 0 where
   pub places-blank : places ≡ zeros
   pub across-blank : across ≡ zeros
   pub down-blank : down ≡ zeros
+
+-- bytes stand at the front of `out`, and r counts them. The second part follows from the first, and is said so that the
+-- proof that Rattle makes of `&out[..r]` finds it.
+abbrev pub Fronts : List ℕ → ℕ → List ℕ → Type 0
+Fronts bytes r out = (r ≤ length out) × (r ≡ length (take r out)) × (take r out ≡ bytes)

@@ -3,6 +3,7 @@ use array::Refusal;
 use readers::FileRead;
 use readers::Head;
 use repair::Answer;
+use repair::Planner;
 use trials::Outcome;
 use writers::FileWritten;
 ghost use mathlib.Core.Path.{_≡_};
@@ -11,11 +12,14 @@ ghost use mathlib.Core.Bool.{cond};
 ghost use lib.ListN.{length};
 ghost use Rattle.array.specs.Buffer.{zeros};
 ghost use Rattle.array.specs.Map.{inner-faulty};
-ghost use Rattle.repair.specs.Operations.{plan-repair};
+ghost use Rattle.repair.specs.declared.Planner.the-variants.{Trials, Quick};
 ghost use Rattle.writers.specs.Writing.{told};
-ghost use Rattle.listing.specs.Listing.{along, digits, field, line, direction-letter, path-line, cell-line, fault-bytes, seat-bytes, letter-bytes, switch-line, plan-lines, repair-lines, outcome-lines, refusal-line, head-line, limit, map-lines, listing, reported};
+ghost use Rattle.listing.specs.Listing.{along, digits, field, line, direction-letter, path-line, cell-line};
+ghost use Rattle.listing.specs.Listing.{fault-bytes, seat-bytes, letter-bytes, switch-line, plan-lines};
+ghost use Rattle.listing.specs.Listing.{repair-lines, outcome-lines, refusal-line, head-line, planned-lines};
+ghost use Rattle.listing.specs.Listing.{listing, reported};
 ghost use Rattle.formats.specs.Parts.{Room, Wrote};
-ghost use Rattle.listing.specs.Parts.{Long, Lent};
+ghost use Rattle.listing.specs.Parts.{Long, Lent, Fronts};
 
 // Inner part: writes bytes at an offset, and gives the offset after them.
 fn write_bytes(out: &mut [u8], start: usize, bytes: &[u8]) -> usize
@@ -290,6 +294,7 @@ fn write_head(out: &mut [u8], head: Head) -> usize
 
 // Inner part: writes the listing of a map that was read, and gives its length.
 fn write_map(
+    planner: Planner,
     out: &mut [u8],
     head: Head,
     grid: &[u8],
@@ -298,12 +303,13 @@ fn write_map(
     across: &mut [u8],
     down: &mut [u8],
 ) -> usize
-    requires { ⌜ (now directions ≡ zeros) × Lent (now grid) (now directions) (now places) (now across) (now down) × Room (now out) 0 (map-lines head (now grid) (plan-repair (head .rows) (head .columns) (now grid) zeros limit)) ⌝ }
-    ensures { λ r. ⌜ Wrote (now (out .entry)) 0 (map-lines head (now (grid .entry)) (plan-repair (head .rows) (head .columns) (now (grid .entry)) zeros limit)) r (now (out .exit)) ⌝ }
+    requires { ⌜ (now directions ≡ zeros) × Lent (now grid) (now directions) (now places) (now across) (now down)
+        × Room (now out) 0 (planned-lines planner head (now grid)) ⌝ }
+    ensures { λ r. ⌜ Wrote (now (out .entry)) 0 (planned-lines planner head (now (grid .entry))) r (now (out .exit)) ⌝ }
 {
     let n = head.rows;
     let m = head.columns;
-    match repair::plan_repair(n, m, grid, directions, 1000000) {
+    match repair::plan_by(planner, n, m, grid, directions, 1000000) {
         Answer::Planned(o) => {
             let second = write_head(out, head);
             write_outcome(out, second, o, n, m, grid, directions, places, across, down)
@@ -314,6 +320,7 @@ fn write_map(
 
 // Inner part: writes the listing of a map file over blank buffers, and gives its length.
 fn write_file(
+    planner: Planner,
     out: &mut [u8],
     s: &[u8],
     grid: &mut [u8],
@@ -322,19 +329,30 @@ fn write_file(
     across: &mut [u8],
     down: &mut [u8],
 ) -> usize
-    requires { ⌜ (now grid ≡ zeros) × (now directions ≡ zeros) × Lent (now grid) (now directions) (now places) (now across) (now down) × Room (now out) 0 (listing (now s)) ⌝ }
-    ensures { λ r. ⌜ Wrote (now (out .entry)) 0 (listing (now (s .entry))) r (now (out .exit)) ⌝ }
+    requires { ⌜ (now grid ≡ zeros) × (now directions ≡ zeros)
+        × Lent (now grid) (now directions) (now places) (now across) (now down)
+        × Room (now out) 0 (listing planner (now s)) ⌝ }
+    ensures { λ r. ⌜ Wrote (now (out .entry)) 0 (listing planner (now (s .entry))) r (now (out .exit)) ⌝ }
 {
     match readers::read_map(s, grid) {
-        FileRead::File(head) => write_map(out, head, grid, directions, places, across, down),
+        FileRead::File(head) => write_map(
+            planner,
+            out,
+            head,
+            grid,
+            directions,
+            places,
+            across,
+            down,
+        ),
         FileRead::Refused(r) => write_refusal(out, r),
     }
 }
 
-// Inner part: writes the listing of a map file, and gives its length.
-fn write_listing(out: &mut [u8], s: &[u8]) -> usize
-    requires { ⌜ Room (now out) 0 (listing (now s)) ⌝ }
-    ensures { λ r. ⌜ Wrote (now (out .entry)) 0 (listing (now (s .entry))) r (now (out .exit)) ⌝ }
+// Inner part: writes the listing of a map file, for which there is always room, and gives its length.
+pub fn write_listing(planner: Planner, out: &mut [u8], s: &[u8]) -> usize
+    requires { ⌜ length (now out) ≡ 32768 ⌝ }
+    ensures { λ r. ⌜ Fronts (listing planner (now (s .entry))) r (now (out .exit)) ⌝ }
 {
     let mut grid = [0u8; 1024];
     let mut directions = [0u8; 1024];
@@ -342,6 +360,7 @@ fn write_listing(out: &mut [u8], s: &[u8]) -> usize
     let mut across = [0u8; 1024];
     let mut down = [0u8; 1024];
     write_file(
+        planner,
         out,
         s,
         &mut grid,
@@ -353,11 +372,11 @@ fn write_listing(out: &mut [u8], s: &[u8]) -> usize
 }
 
 // Inner part: writes the listing to its room `text`, and copies it to `out` where it fits.
-fn report_within(s: &[u8], text: &mut [u8], out: &mut [u8]) -> FileWritten
+fn report_within(planner: Planner, s: &[u8], text: &mut [u8], out: &mut [u8]) -> FileWritten
     requires { ⌜ length (now text) ≡ 32768 ⌝ }
-    ensures { λ r. ⌜ (r, now (out .exit)) ≡ reported (now (s .entry)) (now (out .entry)) ⌝ }
+    ensures { λ r. ⌜ (r, now (out .exit)) ≡ reported planner (now (s .entry)) (now (out .entry)) ⌝ }
 {
-    let needed = write_listing(text, s);
+    let needed = write_listing(planner, text, s);
     if out.len() < needed {
         return FileWritten::Refused(Refusal {
             number: 14,
@@ -368,11 +387,28 @@ fn report_within(s: &[u8], text: &mut [u8], out: &mut [u8]) -> FileWritten
     FileWritten::Length(write_bytes(out, 0, &text[..needed]))
 }
 
-// Writes the listing of a map file to `out` and answers its length, with the bytes after it kept. Where `out` is too short it is 14, with
-// the length needed as place, and nothing is written.
-pub fn report(s: &[u8], out: &mut [u8]) -> FileWritten
-    ensures { λ r. ⌜ (told r ≡ told (reported (now (s .entry)) (now (out .entry)) .0)) × (now (out .exit) ≡ reported (now (s .entry)) (now (out .entry)) .1) ⌝ }
+// Inner part: the listing by a planner, over room of its own.
+pub fn report_by(planner: Planner, s: &[u8], out: &mut [u8]) -> FileWritten
+    ensures { λ r. ⌜ (told r ≡ told (reported planner (now (s .entry)) (now (out .entry)) .0))
+        × (now (out .exit) ≡ reported planner (now (s .entry)) (now (out .entry)) .1) ⌝ }
 {
     let mut text = [0u8; 32768];
-    report_within(s, &mut text, out)
+    report_within(planner, s, &mut text, out)
+}
+
+// Writes the listing of a map file to `out` and answers its length, with the bytes after it kept. Where `out` is too short
+// it is 14, with the length needed as place, and nothing is written.
+pub fn report(s: &[u8], out: &mut [u8]) -> FileWritten
+    ensures { λ r. ⌜ (told r ≡ told (reported Trials (now (s .entry)) (now (out .entry)) .0))
+        × (now (out .exit) ≡ reported Trials (now (s .entry)) (now (out .entry)) .1) ⌝ }
+{
+    report_by(Planner::Trials, s, out)
+}
+
+// The same with the quick planner.
+pub fn report_quickly(s: &[u8], out: &mut [u8]) -> FileWritten
+    ensures { λ r. ⌜ (told r ≡ told (reported Quick (now (s .entry)) (now (out .entry)) .0))
+        × (now (out .exit) ≡ reported Quick (now (s .entry)) (now (out .entry)) .1) ⌝ }
+{
+    report_by(Planner::Quick, s, out)
 }

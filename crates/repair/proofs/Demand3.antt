@@ -1,4 +1,5 @@
--- Demand 3: one statement about a whole run, for every well-formed map, every limit and every content of the lent buffers.
+-- Demand 3: one statement about a whole run, for either planner, every well-formed map, every limit and every content of
+-- the lent buffers; and the planners agree on what is beyond repair.
 -- Assumes nothing.
 use Prim.Native.Nat.{ℕ, _<_, _≤_}
 use mathlib.Core.Path.{_≡_, refl, sym, ap, subst, _∙_}
@@ -9,20 +10,20 @@ use native.Mathlib.Omega.{arith}
 use borrow.Author.Tests.{eq-eqb, le-leb, lt-ltb}
 use lib.ListN.{length, getD}
 use Rattle.array.specs.Place.{position, row, column, processor}
-use Rattle.array.specs.Buffer.{long, all-long, written, zeros, buffer}
+use Rattle.array.specs.Buffer.{long, all-long, written, zeros}
 use Rattle.array.specs.Map.{healthy}
 use Rattle.array.specs.declared.Verdict.{Verdict}
 use Rattle.array.specs.declared.Verdict.the-variants.{Accepted}
-use Rattle.array.proofs.Bools.{and-true, and-both}
+use Rattle.array.proofs.Bools.{and-true, and-both, by-lt}
 use Rattle.array.proofs.Verdicts.{accept-both, false-accepted}
 use Rattle.array.proofs.Fills.{tabulate-length}
 use Rattle.array.proofs.Formed.{formed, formed-lent, grid-and}
-use Rattle.plans.specs.Faults.{faults, directions-at, paired}
-use Rattle.plans.specs.Plan.{Plan, Every-choice-blocked, First-plan}
-use Rattle.plans.specs.Check.{check-plan, plan-test}
+use Rattle.plans.specs.Faults.{directions-at}
+use Rattle.plans.specs.Plan.{Every-choice-blocked, First-plan}
+use Rattle.plans.specs.Check.{check-plan, plan-test, Holds-plan}
 use Rattle.plans.proofs.Accepts.{accepts-plans, plan-lent}
 use Rattle.trials.specs.Trials.{Search, found, count}
-use Rattle.trials.specs.Search.{T, planned, outcome, direction-of, directions-written}
+use Rattle.trials.specs.Search.{planned, outcome, directions-written}
 use Rattle.trials.specs.declared.Outcome.{Outcome}
 use Rattle.trials.specs.declared.Outcome.the-variants.{Repaired, Beyond, Spent}
 use Rattle.trials.proofs.Theorems.{trial-rule}
@@ -36,11 +37,19 @@ use Rattle.track.specs.Theorems.{Routed, Cell, Neighbour, right, lower, holder}
 use Rattle.track.proofs.Theorem.{reaches, no-shared-piece, avoids-dead}
 use Rattle.track.proofs.Seats.{sits, alone, neighbour-cell}
 use Rattle.track.proofs.Accepted.{inner-cell, followed-neighbour, switches-pass, placement-holds}
-use Rattle.repair.specs.Operations.{plan-repair, directions-after, place-cells, places-after, route-switches, across-after, down-after, link-tests, follow-link, answer-after, followed-after}
-use Rattle.repair.specs.Demand3.{Given, Good, answer, planned-directions, placing, places-held, routing, routed, following, paths, T-of, held, Reached, Neighbour-link, pieces-of, After-repaired, Demand3, Demand-3}
+use Rattle.repair.specs.Operations.{left-by, planned-by, plan-by, directions-by, answer-after}
+use Rattle.repair.specs.Operations.{place-cells, places-after, route-switches, across-after, down-after}
+use Rattle.repair.specs.Operations.{link-tests, follow-link, followed-after}
+use Rattle.repair.specs.Demand3.{Given, Good, answer, planned-directions, paths}
+use Rattle.repair.specs.Demand3.{kept-of, left-of, search-of, T-of, rest-of}
+use Rattle.repair.specs.Demand3.{placing, places-held, routing, routed, following, held}
+use Rattle.repair.specs.Demand3.{Reached, Neighbour-link, pieces-of, After-repaired, Demand3, Demand-3}
+use Rattle.repair.specs.Demand3.{Same-map, Not-spent, Planners-agree}
+use Rattle.repair.specs.declared.Planner.{Planner}
+use Rattle.repair.specs.declared.Planner.the-variants.{Trials}
 use Rattle.repair.specs.declared.Answer.the-variants.{Planned}
+use Rattle.repair.proofs.Planners.{held-by, Planner-rule, planner-rule}
 use Rattle.trials.proofs.Outcomes.{above-spent, spent-above, carried, beyond-exhausted, exhausted-beyond, repaired-found}
-use Rattle.trials.proofs.Written.{paths-again, zero-elsewhere, held-long}
 use Rattle.track.specs.Theorems as track
 
 same-outcome : (o p : Outcome) → Planned o ≡ Planned p → o ≡ p
@@ -48,7 +57,11 @@ same-outcome o p e = cc
 
 module _ (g : Given) (good : Good g) where
   abbrev search : Search
-  search = planned (g .n) (g .m) (g .grid)
+  search = search-of g
+
+  -- what the planner gives
+  rule : Planner-rule (g .planner) (g .n) (g .m) (g .grid)
+  rule = planner-rule (g .n) (g .m) (g .grid) (good .map) (g .planner)
 
   lengths : (long (g .directions) ≡ true) × (long (g .places) ≡ true) × (long (g .across) ≡ true) × (long (g .down) ≡ true)
   lengths =
@@ -65,42 +78,42 @@ module _ (g : Given) (good : Good g) where
       (grid-and (g .n) (g .m) (g .grid) (long (g .directions) && true) (good .map) (rw (lengths .0)))
 
   answer-is : answer g ≡ Planned (outcome (g .limit) search)
-  unfolding plan-repair
+  unfolding plan-by
   answer-is = ap (λ (v : Verdict). answer-after v (outcome (g .limit) search)) map-passes
 
-  directions-are : planned-directions g ≡ directions-written (g .limit) (faults (g .n) (g .m) (g .grid)) search
-  unfolding directions-after
-  directions-are = ap (λ (v : Verdict). written v (directions-written (g .limit) (faults (g .n) (g .m) (g .grid)) search) (g .directions)) map-passes
+  directions-are : planned-directions g ≡ directions-written (g .limit) (kept-of g) (left-of g) search
+  unfolding directions-by
+  directions-are =
+      ap (λ (v : Verdict). written v (directions-written (g .limit) (kept-of g) (left-of g) search) (g .directions))
+      map-passes
 
   -- the planner's outcome
   spent-when : (answer g ≡ Planned (Spent (g .limit))) ↔ (g .limit < T-of g)
-  unfolding T
   spent-when = (
     λ e. spent-above (g .limit) search (same-outcome (outcome (g .limit) search) (Spent (g .limit)) (sym answer-is ∙ e)),
     λ l. answer-is ∙ ap Planned (above-spent (g .limit) search l),
   )
 
   carries : T-of g ≤ g .limit → (answer g ≡ Planned (Repaired (T-of g))) ⊎ (answer g ≡ Planned (Beyond (T-of g)))
-  unfolding T
   carries l =
       ⊎-elim (λ e. inl (answer-is ∙ ap Planned e)) (λ e. inr (answer-is ∙ ap Planned e)) (carried (g .limit) search l)
 
   beyond-when : T-of g ≤ g .limit → (answer g ≡ Planned (Beyond (T-of g))) ↔ Every-choice-blocked (g .n) (g .m) (g .grid)
-  unfolding T
   beyond-when l = (
     λ e.
-        trial-rule .none-found (g .n) (g .m) (count search) (g .grid)
-        (beyond-exhausted (g .limit) search (count search) (same-outcome (outcome (g .limit) search) (Beyond (count search)) (sym answer-is ∙ e))),
+        rule .none-found (count search)
+        (beyond-exhausted (g .limit) search (count search)
+        (same-outcome (outcome (g .limit) search) (Beyond (count search)) (sym answer-is ∙ e))),
     λ b.
         answer-is
-        ∙ ap (λ (s : Search). Planned (outcome (g .limit) s)) (trial-rule .none-there (g .n) (g .m) (g .grid) b)
+        ∙ ap (λ (s : Search). Planned (outcome (g .limit) s)) (rule .none-there b)
         ∙ ap Planned (exhausted-beyond (g .limit) (count search) l),
   )
 
   repaired-else : T-of g ≤ g .limit → (Every-choice-blocked (g .n) (g .m) (g .grid) → ⊥) → answer g ≡ Planned (Repaired (T-of g))
   repaired-else l b = ⊎-elim (λ e. e) (λ e. absurd (b (beyond-when l .0 e))) (carries l)
 
-  -- what follows on repaired, where the trials have found the plan xs within the limit
+  -- what follows on repaired, where the trials have found the directions xs within the limit
   module _ (xs : List ℕ) (is : search ≡ found (count search) xs) (within : count search ≤ g .limit) where
     abbrev n : ℕ
     n = g .n
@@ -117,49 +130,39 @@ module _ (g : Given) (good : Good g) where
     abbrev w : Wafer
     w = routed g
 
-    first : First-plan n m grid xs
-    first = trial-rule .first-of-plans n m (count search) grid xs is
-
-    grid-long : length grid ≡ 1024
-    grid-long = formed n m grid (good .map) .length-is
-
-    one-each : length xs ≡ length (faults n m grid)
-    one-each = first .is-plan .one-path .one-each
-
-    dirs-are : dirs ≡ buffer (direction-of (paired (faults n m grid) xs))
+    dirs-are : dirs ≡ held-by (g .planner) n m grid xs
     unfolding directions-written
     dirs-are =
         directions-are
-        ∙ ap (directions-written (g .limit) (faults n m grid)) is
-        ∙ ap (λ (b : Bool). cond b (buffer (direction-of (paired (faults n m grid) xs))) zeros) (le-leb (count search) (g .limit) within)
+        ∙ ap (directions-written (g .limit) (kept-of g) (left-of g)) is
+        ∙ ap (λ (b : Bool). cond b (held-by (g .planner) n m grid xs) zeros) (le-leb (count search) (g .limit) within)
 
-    paths-are : paths g ≡ xs
-    paths-are = ap (λ (b : List ℕ). directions-at b (faults n m grid)) dirs-are ∙ paths-again n m grid xs grid-long one-each
-
-    plan-here : Plan n m grid (directions-at dirs (faults n m grid))
-    plan-here = subst (λ (l : List ℕ). Plan n m grid l) (sym paths-are) (first .is-plan)
-
-    dirs-long : length dirs ≡ 1024
-    dirs-long = ap length dirs-are ∙ held-long n m grid xs grid-long one-each
+    rest-are : rest-of g ≡ xs
+    rest-are = ap (λ (b : List ℕ). directions-at b (left-of g)) dirs-are ∙ rule .rest-held (count search) xs is
 
     checked : check-plan n m grid dirs ≡ Accepted
-    checked =
-        accepts-plans n m grid dirs .1
-        (record {
-          map = good .map;
-          length-right = dirs-long;
-          plan = plan-here;
-          elsewhere = λ p h f. ap (λ (b : List ℕ). getD b p 0) dirs-are ∙ zero-elsewhere n m grid xs grid-long one-each p h f;
-        })
+    checked = ap (check-plan n m grid) dirs-are ∙ rule .checked (count search) xs is
 
-    both-long : (long grid && (long dirs && true)) ≡ true
-    both-long = rw (eq-eqb (length grid) 1024 grid-long, eq-eqb (length dirs) 1024 dirs-long)
+    -- the directions hold a plan
+    holds : Holds-plan n m grid dirs
+    holds = accepts-plans n m grid dirs .0 checked
+
+    -- and by the trial rule the first one
+    first : g .planner ≡ Trials → First-plan n m grid (paths g)
+    first e =
+        let k = count search in
+        let p : planned n m grid ≡ found k xs = ap (λ (pl : Planner). planned-by pl n m grid) (sym e) ∙ is in
+        let q : paths g ≡ rest-of g = ap (λ (pl : Planner). directions-at dirs (left-by pl n m grid)) (sym e) in
+        subst (λ (l : List ℕ). First-plan n m grid l) (sym (q ∙ rest-are)) (trial-rule .first-of-plans n m k grid xs p)
+
+    grid-long : length grid ≡ 1024
+    grid-long = formed n m grid (good .map) .length-is
 
     -- 1 to 7 pass, whichever other buffers of their length are lent
     passes : (others : List (List ℕ)) → all-long others ≡ true → plan-test n m (grid ∷ dirs ∷ others) grid dirs ≡ Accepted
     passes others h =
         plan-lent n m grid dirs (long grid && (long dirs && all-long others)) checked
-        (rw (eq-eqb (length grid) 1024 grid-long, eq-eqb (length dirs) 1024 dirs-long, h))
+        (rw (eq-eqb (length grid) 1024 grid-long, eq-eqb (length dirs) 1024 (holds .length-right), h))
 
     placed : placing g ≡ Accepted
     unfolding place-cells
@@ -182,7 +185,14 @@ module _ (g : Given) (good : Good g) where
     down-are = ap (λ (v : Verdict). written v (down-letters n m grid dirs) (g .down)) routed-right
 
     wafer-routed : Routed w
-    wafer-routed = record { map = good .map; plan = plan-here; across-set = across-are; down-set = down-are; broken-are = λ v. refl }
+    wafer-routed =
+        record {
+          map = good .map;
+          plan = holds .plan;
+          across-set = across-are;
+          down-set = down-are;
+          broken-are = λ v. refl;
+        }
 
     -- the placement holds the seats
     held-is : (i j : ℕ) → Cell w i j → held g i j ≡ holder w i j
@@ -272,11 +282,12 @@ module _ (g : Given) (good : Good g) where
         s
 
     after-found : After-repaired g
-    unfolding T
     after-found =
         record {
-          by-rule = is ∙ ap (found (count search)) (sym paths-are);
-          first-plan = subst (λ (l : List ℕ). First-plan n m grid l) (sym paths-are) first;
+          by-rule = is ∙ ap (found (count search)) (sym rest-are);
+          directions-defined = dirs-are ∙ ap (held-by (g .planner) n m grid) (sym rest-are);
+          is-plan = holds .plan;
+          first-plan = first;
           placing-accepted = placed;
           placement-defined = places-are;
           routing-accepted = routed-right;
@@ -306,3 +317,21 @@ module _ (g : Given) (good : Good g) where
 
 pub demand-3 : Demand-3
 demand-3 g good = whole-run g good
+
+-- where one run calls the map beyond repair, so does another of the same map
+beyond-too :
+    (g h : Given) → Good g → Good h → Same-map g h → T-of g ≤ g .limit → T-of h ≤ h .limit →
+    answer g ≡ Planned (Beyond (T-of g)) → answer h ≡ Planned (Beyond (T-of h))
+beyond-too g h x y same l k e =
+    beyond-when h y k .1 (rw (same .rows, same .columns, same .marks) at (beyond-when g x l .0 e))
+
+within-limit : (g : Given) → Good g → Not-spent g → T-of g ≤ g .limit
+within-limit g x un = by-lt (g .limit) (T-of g) (λ l. absurd (un (spent-when g x .1 l))) (λ l. l)
+
+pub planners-agree : Planners-agree
+planners-agree g h x y same p q =
+    let l = within-limit g x p in
+    let k = within-limit h y q in
+    let back : Same-map h g =
+    record { rows = sym (same .rows); columns = sym (same .columns); marks = sym (same .marks) } in
+    (beyond-too g h x y same l k, beyond-too h g y x back k l)

@@ -1,5 +1,6 @@
 pub mod Cells
 pub mod Calls
+pub mod Planners
 pub mod Demand3
 pub mod Answers
 pub mod Numbered

@@ -1,4 +1,4 @@
--- The numbers of the planner and of the follower are document 01's.
+-- The numbers of the planners and of the follower are document 01's.
 -- Assumes nothing.
 use Prim.Native.Nat.{ℕ}
 use mathlib.Core.Path.{_≡_, refl, ap}
@@ -18,7 +18,8 @@ use Rattle.track.specs.Ports.{Wafer}
 use Rattle.track.specs.Follower.{followed}
 use Rattle.track.specs.declared.Followed.{Followed}
 use Rattle.track.proofs.Follows.{follower-refuses}
-use Rattle.repair.specs.Operations.{told, answer-after, plan-repair, link-tests, followed-after, follow-link}
+use Rattle.repair.specs.Operations.{told, answer-after, plan-by, link-tests, followed-after, follow-link}
+use Rattle.repair.specs.declared.Planner.{Planner}
 use Rattle.track.specs.Follower as links
 use Rattle.track.specs.declared.Followed.the-variants as follow
 
@@ -28,10 +29,10 @@ numbered-answer Accepted h (Repaired t) = search numbers
 numbered-answer Accepted h (Beyond t) = search numbers
 numbered-answer Accepted h (Spent t) = search numbers
 
-pub plan-repair-numbered : (n m : ℕ) (grid directions : List ℕ) (limit : ℕ)
-    → Numbered-as told (plan-repair n m grid directions limit)
-unfolding plan-repair
-plan-repair-numbered n m grid directions limit = search (numbered-answer, map-numbered)
+pub plan-numbered-by : (pl : Planner) (n m : ℕ) (grid directions : List ℕ) (limit : ℕ)
+    → Numbered-as told (plan-by pl n m grid directions limit)
+unfolding plan-by
+plan-numbered-by pl n m grid directions limit = search (numbered-answer, map-numbered)
 
 tests-numbered : (w : Wafer) (right : Bool) (cell side : ℕ) → Numbered-verdict (link-tests w right cell side)
 unfolding link-tests

@@ -1,5 +1,6 @@
--- Demand 3, as one statement about a whole run (document 00, demand 3; document 01, end of "Placement and routing"; document 02,
--- T-04: the openness of a plan is the narrower one, and a dead processor joins none of its ports).
+-- Demand 3, as one statement about a whole run (document 00, demand 3; document 01, end of "Placement and routing").
+-- Document 02, T-04: the openness of a plan is the narrower one, and a dead processor joins none of its ports. T-05: the
+-- run is made with either planner, and both call a map beyond repair in the same cases.
 -- Assumes nothing.
 use Prim.Native.Nat.{ℕ, _≤_, _<_}
 use mathlib.Core.Path.{_≡_}
@@ -13,9 +14,10 @@ use Rattle.array.specs.Map.{well-formed, healthy, dead}
 use Rattle.array.specs.declared.Verdict.{Verdict}
 use Rattle.array.specs.declared.Verdict.the-variants.{Accepted}
 use Rattle.plans.specs.Faults.{faults, directions-at}
-use Rattle.plans.specs.Plan.{Every-choice-blocked, First-plan}
-use Rattle.trials.specs.Trials.{found}
-use Rattle.trials.specs.Search.{T, planned}
+use Rattle.plans.specs.Plan.{Plan, Every-choice-blocked, First-plan}
+use Rattle.plans.specs.declared.Fault.{Fault}
+use Rattle.trials.specs.Trials.{Search, found, count}
+use Rattle.trials.specs.Search.{plan-buffer}
 use Rattle.trials.specs.declared.Outcome.the-variants.{Repaired, Beyond, Spent}
 use Rattle.track.specs.Placement.{placement}
 use Rattle.track.specs.Letters.{across-letters, down-letters}
@@ -27,12 +29,17 @@ use Rattle.track.specs.Theorems.{Cell, Neighbour}
 use Rattle.track.specs.Avoids.{Visits}
 use Rattle.track.specs.declared.Followed.{Followed}
 use Rattle.track.specs.declared.Followed.the-variants.{Entered}
-use Rattle.repair.specs.Operations.{plan-repair, directions-after, place-cells, places-after, route-switches, across-after, down-after, follow-link}
+use Rattle.repair.specs.Operations.{kept-by, left-by, planned-by, plan-by, directions-by}
+use Rattle.repair.specs.Operations.{place-cells, places-after, route-switches, across-after, down-after}
+use Rattle.repair.specs.Operations.{follow-link}
+use Rattle.repair.specs.declared.Planner.{Planner}
+use Rattle.repair.specs.declared.Planner.the-variants.{Trials}
 use Rattle.repair.specs.declared.Answer.{Answer}
 use Rattle.repair.specs.declared.Answer.the-variants.{Planned}
 
--- what is given to a run: a fault map, a limit, and the lent buffers with whatever they hold
+-- what is given to a run: the planner, a fault map, a limit, and the lent buffers with whatever they hold
 pub record Given : Type 0 where
+  pub planner : Planner
   pub n : ℕ
   pub m : ℕ
   pub grid : List ℕ
@@ -51,10 +58,10 @@ pub record Good (g : Given) : Type 0 where
 -- THE RUN. Each call gets N, M and the grid; what the planner leaves in the direction buffer is handed to the three other operations, and
 -- what the routing leaves in the switch buffers to the follower.
 abbrev pub answer : Given → Answer
-answer g = plan-repair (g .n) (g .m) (g .grid) (g .directions) (g .limit)
+answer g = plan-by (g .planner) (g .n) (g .m) (g .grid) (g .directions) (g .limit)
 
 abbrev pub planned-directions : Given → List ℕ
-planned-directions g = directions-after (g .n) (g .m) (g .grid) (g .directions) (g .limit)
+planned-directions g = directions-by (g .planner) (g .n) (g .m) (g .grid) (g .directions) (g .limit)
 
 abbrev pub placing : Given → Verdict
 placing g = place-cells (g .n) (g .m) (g .grid) (planned-directions g) (g .places)
@@ -79,9 +86,23 @@ following g i j side = follow-link (routed g) (position i j) side
 abbrev pub paths : Given → List ℕ
 paths g = directions-at (planned-directions g) (faults (g .n) (g .m) (g .grid))
 
--- T of the map
+-- what the planner keeps before its trials, the faults that these are over, and the trials
+abbrev pub kept-of : Given → List Fault
+kept-of g = kept-by (g .planner) (g .n) (g .m) (g .grid)
+
+abbrev pub left-of : Given → List ℕ
+left-of g = left-by (g .planner) (g .n) (g .m) (g .grid)
+
+abbrev pub search-of : Given → Search
+search-of g = planned-by (g .planner) (g .n) (g .m) (g .grid)
+
+-- T: the planner's own count of trials
 abbrev pub T-of : Given → ℕ
-T-of g = T (g .n) (g .m) (g .grid)
+T-of g = count (search-of g)
+
+-- the directions written for the faults that the trials are over
+abbrev pub rest-of : Given → List ℕ
+rest-of g = directions-at (planned-directions g) (left-of g)
 
 -- the position that the placement holds for cell [i, j], and the port of the processor there by which its link on a side leaves
 abbrev pub held : Given → ℕ → ℕ → ℕ
@@ -122,9 +143,12 @@ pieces-of g u = pieces (out g (u .i) (u .j) (u .side)) (u .link)
 
 -- what follows on `repaired`
 pub record After-repaired (g : Given) : Type 0 where
-  -- the paths are those that the trial rule finds, a plan, and the first of all plans
-  pub by-rule : planned (g .n) (g .m) (g .grid) ≡ found (T-of g) (paths g)
-  pub first-plan : First-plan (g .n) (g .m) (g .grid) (paths g)
+  -- the trials find the directions of the faults left, and the buffer has these and those that were kept beforehand
+  pub by-rule : search-of g ≡ found (T-of g) (rest-of g)
+  pub directions-defined : planned-directions g ≡ plan-buffer (kept-of g) (left-of g) (rest-of g)
+  -- the paths are a plan, and by the trial rule over all faults the first of all plans
+  pub is-plan : Plan (g .n) (g .m) (g .grid) (paths g)
+  pub first-plan : g .planner ≡ Trials → First-plan (g .n) (g .m) (g .grid) (paths g)
   -- placement and routing accept, and their buffers hold what `track` defines for the directions
   pub placing-accepted : placing g ≡ Accepted
   pub placement-defined : places-held g ≡ placement (g .n) (g .m) (g .grid) (planned-directions g)
@@ -159,3 +183,18 @@ pub record Demand3 (g : Given) : Type 0 where
 -- for every well-formed map, every limit and every content of the lent buffers
 abbrev pub Demand-3 : Type 0
 Demand-3 = (g : Given) → Good g → Demand3 g
+
+-- two runs of one map
+pub record Same-map (g h : Given) : Type 0 where
+  pub rows : g .n ≡ h .n
+  pub columns : g .m ≡ h .m
+  pub marks : g .grid ≡ h .grid
+
+abbrev pub Not-spent : Given → Type 0
+Not-spent g = answer g ≡ Planned (Spent (g .limit)) → ⊥
+
+-- T-05: both planners call a map beyond repair in the same cases, where neither is spent
+abbrev pub Planners-agree : Type 0
+Planners-agree =
+    (g h : Given) → Good g → Good h → Same-map g h → Not-spent g → Not-spent h
+    → (answer g ≡ Planned (Beyond (T-of g))) ↔ (answer h ≡ Planned (Beyond (T-of h)))

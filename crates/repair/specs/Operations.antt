@@ -1,4 +1,4 @@
--- The four operations of a run: what each answers, and every buffer afterwards, for refused calls too.
+-- The operations of a run, with two planners: what each answers, and every buffer afterwards, for refused calls too.
 -- The arguments `directions`, `places`, `across` and `down` are the buffers as they are lent. Assumes nothing.
 use Prim.Native.Nat.{ℕ}
 use mathlib.Core.Bool.{Bool}
@@ -9,34 +9,69 @@ use Rattle.array.specs.Map.{map-test}
 use Rattle.array.specs.declared.Verdict.{Verdict}
 use Rattle.plans.specs.Faults.{faults}
 use Rattle.plans.specs.Check.{plan-tests, plan-test}
+use Rattle.plans.specs.declared.Fault.{Fault}
+use Rattle.trials.specs.Trials.{Search}
 use Rattle.trials.specs.Search.{planned, outcome, directions-written}
 use Rattle.trials.specs.declared.Outcome.{Outcome}
 use Rattle.trials.specs.declared.Outcome.the-variants.{Repaired, Beyond, Spent}
+use Rattle.peeling.specs.Peel.{peeled-on, unpeeled-on, quick-planned}
 use Rattle.track.specs.Placement.{placement}
 use Rattle.track.specs.Letters.{across-letters, down-letters}
 use Rattle.track.specs.Ports.{Wafer}
 use Rattle.track.specs.Follower.{cell-test, switches-test, followed}
 use Rattle.track.specs.declared.Followed.{Followed}
+use Rattle.repair.specs.declared.Planner.{Planner}
+use Rattle.repair.specs.declared.Planner.the-variants.{Trials, Quick}
 use Rattle.repair.specs.declared.Answer.{Answer}
 use Rattle.repair.specs.declared.Answer.the-variants.{Planned, Refused}
 use Rattle.array.specs.declared.Verdict.the-variants as verdict
 use Rattle.track.specs.declared.Followed.the-variants as follow
 
--- plan_repair: 1 to 3, then the outcome of the trials under the limit
-abbrev pub plan-repair-test : ℕ → ℕ → List ℕ → List ℕ → Verdict
-plan-repair-test n m grid directions = map-test n m (grid ∷ directions ∷ []) grid
+-- THE PLANNERS. What a planner keeps before its trials: nothing, or the faults that it has settled (T-05).
+abbrev pub kept-by : Planner → ℕ → ℕ → List ℕ → List Fault
+kept-by Trials n m grid = []
+kept-by Quick n m grid = peeled-on n m grid
+
+-- the faults that its trials are over
+abbrev pub left-by : Planner → ℕ → ℕ → List ℕ → List ℕ
+left-by Trials n m grid = faults n m grid
+left-by Quick n m grid = unpeeled-on n m grid
+
+-- and the trials, which are all that it counts
+abbrev pub planned-by : Planner → ℕ → ℕ → List ℕ → Search
+planned-by Trials n m grid = planned n m grid
+planned-by Quick n m grid = quick-planned n m grid
+
+-- a planner's call: 1 to 3, then the outcome of its trials under the limit
+abbrev pub planner-test : ℕ → ℕ → List ℕ → List ℕ → Verdict
+planner-test n m grid directions = map-test n m (grid ∷ directions ∷ []) grid
 
 abbrev pub answer-after : Verdict → Outcome → Answer
 answer-after verdict.Accepted o = Planned o
 answer-after (verdict.Refused r) o = Refused r
 
-unfoldable pub plan-repair : ℕ → ℕ → List ℕ → List ℕ → ℕ → Answer
-plan-repair n m grid directions limit =
-    answer-after (plan-repair-test n m grid directions) (outcome limit (planned n m grid))
+unfoldable pub plan-by : Planner → ℕ → ℕ → List ℕ → List ℕ → ℕ → Answer
+plan-by pl n m grid directions limit =
+    answer-after (planner-test n m grid directions) (outcome limit (planned-by pl n m grid))
 
-unfoldable pub directions-after : ℕ → ℕ → List ℕ → List ℕ → ℕ → List ℕ
-directions-after n m grid directions limit =
-    written (plan-repair-test n m grid directions) (directions-written limit (faults n m grid) (planned n m grid)) directions
+unfoldable pub directions-by : Planner → ℕ → ℕ → List ℕ → List ℕ → ℕ → List ℕ
+directions-by pl n m grid directions limit =
+    written (planner-test n m grid directions)
+    (directions-written limit (kept-by pl n m grid) (left-by pl n m grid) (planned-by pl n m grid)) directions
+
+-- plan_repair
+abbrev pub plan-repair : ℕ → ℕ → List ℕ → List ℕ → ℕ → Answer
+plan-repair = plan-by Trials
+
+abbrev pub directions-after : ℕ → ℕ → List ℕ → List ℕ → ℕ → List ℕ
+directions-after = directions-by Trials
+
+-- plan_quickly
+abbrev pub plan-quickly : ℕ → ℕ → List ℕ → List ℕ → ℕ → Answer
+plan-quickly = plan-by Quick
+
+abbrev pub directions-quickly : ℕ → ℕ → List ℕ → List ℕ → ℕ → List ℕ
+directions-quickly = directions-by Quick
 
 -- the kind of outcome (0 repaired, 1 beyond repair, 2 spent) and the count that it carries
 abbrev pub outcome-told : Outcome → Told

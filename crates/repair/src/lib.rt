@@ -1,26 +1,78 @@
-// The operations of a run: planner, placement, routing and follower.
+// The operations of a run: the planners, placement, routing and follower.
 use array::Refusal;
 use array::Verdict;
 use track::Followed;
 use trials::Outcome;
 ghost use mathlib.Core.Path.{_≡_};
 ghost use mathlib.Core.Bool.{true};
-ghost use Prim.Native.Nat.{_<_};
+ghost use Prim.Native.Nat.{_≤_, _<_};
 ghost use lib.ListN.{length};
 ghost use Rattle.array.specs.Place.{inner};
 ghost use Rattle.plans.specs.Inner.{Directed};
+ghost use Rattle.trials.specs.Search.{outcome, directions-written};
 ghost use Rattle.track.specs.Follower.{followed};
 ghost use Rattle.follower.specs.Inner.{Ready};
 ghost use Rattle.track.specs.Ports.{wafer};
-ghost use Rattle.repair.specs.Operations.{plan-repair, directions-after, place-cells, places-after, route-switches, across-after, down-after, link-tests, follow-link};
+ghost use Rattle.repair.specs.Operations.{kept-by, left-by, planned-by, plan-by, directions-by};
+ghost use Rattle.repair.specs.Operations.{plan-repair, directions-after, plan-quickly, directions-quickly};
+ghost use Rattle.repair.specs.Operations.{place-cells, places-after, route-switches, across-after, down-after};
+ghost use Rattle.repair.specs.Operations.{link-tests, follow-link};
 ghost use Rattle.array.specs.Tests as tests;
 ghost use Rattle.track.specs.Follower as links;
 ghost use Rattle.repair.specs.Operations as operations;
 
-// What the planner answers: its outcome, or a refusal with its places.
+// The planners: the trial rule over all inner faults, and the quick one, which settles outer faults first.
+pub enum Planner {
+    Trials,
+    Quick,
+}
+
+// What a planner answers: its outcome, or a refusal with its places.
 pub enum Answer {
     Planned(Outcome),
     Refused(Refusal),
+}
+
+// Inner part: a planner on a map that passes the tests 1 to 3.
+pub fn find_by(
+    planner: Planner,
+    n: usize,
+    m: usize,
+    grid: &[u8],
+    directions: &mut [u8],
+    limit: u32,
+) -> Outcome
+    requires { ⌜ (n ≤ 30) × (m ≤ 30) × (length (now grid) ≡ 1024) × (length (now directions) ≡ 1024) ⌝ }
+    ensures { λ r. ⌜ (r ≡ outcome limit (planned-by planner n m (now (grid .entry))))
+        × (now (directions .exit) ≡ directions-written limit (kept-by planner n m (now (grid .entry)))
+        (left-by planner n m (now (grid .entry))) (planned-by planner n m (now (grid .entry)))) ⌝ }
+{
+    match planner {
+        Planner::Trials => trials::find_plan(n, m, grid, directions, limit),
+        Planner::Quick => peeling::find_plan(n, m, grid, directions, limit),
+    }
+}
+
+// Inner part: a planner's tests, then the planner.
+pub fn plan_by(
+    planner: Planner,
+    n: usize,
+    m: usize,
+    grid: &[u8],
+    directions: &mut [u8],
+    limit: u32,
+) -> Answer
+    ensures answer { λ r. ⌜ operations.told r
+        ≡ operations.told (plan-by planner n m (now (grid .entry)) (now (directions .entry)) limit) ⌝ }
+    ensures buffer { λ _. ⌜ now (directions .exit)
+        ≡ directions-by planner n m (now (grid .entry)) (now (directions .entry)) limit ⌝ }
+{
+    let right = (grid.len() == 1024) & (directions.len() == 1024);
+    let v = array::check_map(n, m, right, grid);
+    if let Verdict::Refused(r) = v {
+        return Answer::Refused(r);
+    }
+    Answer::Planned(find_by(planner, n, m, grid, directions, limit))
 }
 
 // The planner: the outcome of the trials under a limit. Repaired writes the plan; beyond repair and spent write 0 in the whole buffer.
@@ -28,12 +80,17 @@ pub fn plan_repair(n: usize, m: usize, grid: &[u8], directions: &mut [u8], limit
     ensures answer { λ r. ⌜ operations.told r ≡ operations.told (plan-repair n m (now (grid .entry)) (now (directions .entry)) limit) ⌝ }
     ensures buffer { λ _. ⌜ now (directions .exit) ≡ directions-after n m (now (grid .entry)) (now (directions .entry)) limit ⌝ }
 {
-    let right = (grid.len() == 1024) & (directions.len() == 1024);
-    let v = array::check_map(n, m, right, grid);
-    if let Verdict::Refused(r) = v {
-        return Answer::Refused(r);
-    }
-    Answer::Planned(trials::find_plan(n, m, grid, directions, limit))
+    plan_by(Planner::Trials, n, m, grid, directions, limit)
+}
+
+// The quick planner: the same, where outer faults are settled first and the trials are over the others.
+pub fn plan_quickly(n: usize, m: usize, grid: &[u8], directions: &mut [u8], limit: u32) -> Answer
+    ensures answer { λ r. ⌜ operations.told r
+        ≡ operations.told (plan-quickly n m (now (grid .entry)) (now (directions .entry)) limit) ⌝ }
+    ensures buffer { λ _. ⌜ now (directions .exit)
+        ≡ directions-quickly n m (now (grid .entry)) (now (directions .entry)) limit ⌝ }
+{
+    plan_by(Planner::Quick, n, m, grid, directions, limit)
 }
 
 // The placement of a plan: at 32i + j the position that holds cell [i, j], else 0.

@@ -12,11 +12,12 @@ use Rattle.array.specs.declared.Verdict.the-variants.{Accepted, Refused}
 use Rattle.array.proofs.Bools.{and-true}
 use Rattle.array.proofs.Formed.{formed-lent, grid-and}
 use Rattle.array.proofs.Verdicts.{kept-refused, written-accepted}
-use Rattle.plans.specs.Faults.{faults}
-use Rattle.trials.specs.Search.{planned, outcome, directions-written}
+use Rattle.trials.specs.Search.{outcome, directions-written}
 use Rattle.trials.specs.declared.Outcome.{Outcome}
-use Rattle.repair.specs.Operations.{told, plan-repair-test, plan-repair, directions-after, places-after, across-after, down-after}
-use Rattle.repair.specs.Demand3.{Given, Good, answer, planned-directions, places-held, routed, After-repaired, Demand3}
+use Rattle.repair.specs.Operations.{told, planner-test, plan-by, directions-by}
+use Rattle.repair.specs.Operations.{places-after, across-after, down-after}
+use Rattle.repair.specs.Demand3.{Given, Good, answer, planned-directions, kept-of, left-of, search-of}
+use Rattle.repair.specs.Demand3.{places-held, routed, After-repaired, Demand3}
 use Rattle.repair.specs.declared.Answer.{Answer}
 use Rattle.repair.specs.declared.Answer.the-variants.{Planned}
 use Rattle.repair.proofs.Calls.{answer-accepted}
@@ -67,25 +68,25 @@ module _ (g : Given) (u32 : g .limit < 4294967296) where
         ran (ap (λ (w : Verdict). unless-refused w (answer g)) (sym h ∙ tested)) refl (kept-refused tested _ _ h)
         (λ p. absurd (never-both (sym tested ∙ h) p)) refl refl refl refl (λ f. absurd (false≢true f))
 
-    -- The tests pass, and the search has the outcome o and leaves ds in the direction buffer.
+    -- The tests pass, and the planner has the outcome o and leaves ds in the direction buffer.
     module _ (passed : v ≡ Accepted)
-        {o : Outcome} (found : o ≡ outcome (g .limit) (planned (g .n) (g .m) (g .grid)))
-        {ds : List ℕ} (left : ds ≡ directions-written (g .limit) (faults (g .n) (g .m) (g .grid)) (planned (g .n) (g .m) (g .grid))) where
+        {o : Outcome} (found : o ≡ outcome (g .limit) (search-of g))
+        {ds : List ℕ} (left : ds ≡ directions-written (g .limit) (kept-of g) (left-of g) (search-of g)) where
       passes : run-test g ≡ Accepted
       passes = sym tested ∙ passed
 
-      planner-passes : plan-repair-test (g .n) (g .m) (g .grid) (g .directions) ≡ Accepted
+      planner-passes : planner-test (g .n) (g .m) (g .grid) (g .directions) ≡ Accepted
       planner-passes =
           let d = demand passes .0 in
           formed-lent (g .n) (g .m) (g .grid) (long (g .grid) && (long (g .directions) && true)) (d .map)
           (grid-and (g .n) (g .m) (g .grid) (long (g .directions) && true) (d .map) (rw (and-true (long (g .directions)) _ (d .lent) .0)))
 
       as-planned : Planned o ≡ answer g
-      unfolding plan-repair
+      unfolding plan-by
       as-planned = answer-accepted refl _ planner-passes found
 
       as-left : ds ≡ planned-directions g
-      unfolding directions-after
+      unfolding directions-by
       as-left = written-accepted refl _ _ planner-passes left
 
       answered : Planned o ≡ run-answer g

@@ -1,5 +1,5 @@
--- One run: what the function that makes its calls answers, and every buffer afterwards (document 00, demand 3; document 01, end of
--- "Placement and routing"). Assumes nothing.
+-- One run with either planner: what the function that makes its calls answers, and every buffer afterwards (document
+-- 00, demand 3; document 01, end of "Placement and routing"; document 02, T-05). Assumes nothing.
 use Prim.Native.Nat.{ℕ, _+_, _-_, _*_}
 use mathlib.Core.Path.{_≡_}
 use mathlib.Core.Bool.{Bool, true, false, cond, _&&_}
@@ -18,15 +18,17 @@ use Rattle.track.specs.Follower.{by-side}
 use Rattle.track.specs.declared.Followed.{Followed}
 use Rattle.repair.specs.Operations.{told, place-cells, places-after, route-switches, across-after, down-after, follow-link}
 use Rattle.repair.specs.Demand3.{Given, Good, answer, planned-directions, places-held, routed, Demand3}
+use Rattle.repair.specs.declared.Planner.{Planner}
 use Rattle.repair.specs.declared.Answer.{Answer}
 use Rattle.repair.specs.declared.Answer.the-variants.{Planned, Refused}
 use Rattle.runs.specs.declared.Ran.{Ran}
 use Rattle.array.specs.declared.Verdict.the-variants as verdict
 use Rattle.track.specs.declared.Followed.the-variants as follow
 
-abbrev pub given : ℕ → ℕ → List ℕ → ℕ → List ℕ → List ℕ → List ℕ → List ℕ → Given
-given n m grid limit directions places across down =
+abbrev pub given : Planner → ℕ → ℕ → List ℕ → ℕ → List ℕ → List ℕ → List ℕ → List ℕ → Given
+given pl n m grid limit directions places across down =
     record {
+      planner = pl;
       n = n;
       m = m;
       grid = grid;

@@ -1,6 +1,7 @@
 // One run: planner, placement, routing, and the follower on every link to a neighbour.
 use array::Verdict;
 use repair::Answer;
+use repair::Planner;
 use track::Followed;
 use trials::Outcome;
 ghost use mathlib.Core.Path.{_≡_};
@@ -8,6 +9,7 @@ ghost use Prim.Native.Nat.{_≤_, _<_};
 ghost use lib.ListN.{length, getD};
 ghost use Rattle.track.specs.Ports.{wafer};
 ghost use Rattle.repair.specs.Operations.{places-after, across-after, down-after};
+ghost use Rattle.repair.specs.declared.Planner.the-variants.{Trials, Quick};
 ghost use Rattle.repair.specs.declared.Answer.the-variants.{Planned};
 ghost use Rattle.runs.specs.Run.{given, is-repaired, has-neighbour, neighbour-of, arrives-at, reached, links-reached, all-reached, links-found, Ran-as};
 ghost use Rattle.runs.specs.Inner.{Accepts, Laid};
@@ -18,7 +20,7 @@ pub struct Ran {
     pub links: usize,
 }
 
-// repair_run is for callers; the other functions are inner parts.
+// repair_run and run_quickly are for callers; the other functions are inner parts.
 
 fn is_repaired(outcome: Outcome) -> bool
     ensures { λ r. ⌜ r ≡ is-repaired (Planned outcome) ⌝ }
@@ -156,9 +158,9 @@ fn complete(
     count_all(n, m, grid, directions, places, across, down)
 }
 
-// One run: the plan, and after `repaired` the placement, the switches and every link to a neighbour followed. After beyond repair and
-// spent, `places`, `across` and `down` stay as they were lent.
-pub fn repair_run(
+// One run with a planner.
+pub fn run_by(
+    planner: Planner,
     n: usize,
     m: usize,
     grid: &[u8],
@@ -168,7 +170,10 @@ pub fn repair_run(
     across: &mut [u8],
     down: &mut [u8],
 ) -> Ran
-    ensures { λ r. ⌜ Ran-as (given n m (now (grid .entry)) limit (now (directions .entry)) (now (places .entry)) (now (across .entry)) (now (down .entry))) r (now (directions .exit)) (now (places .exit)) (now (across .exit)) (now (down .exit)) ⌝ }
+    ensures { λ r. ⌜ Ran-as
+        (given planner n m (now (grid .entry)) limit
+        (now (directions .entry)) (now (places .entry)) (now (across .entry)) (now (down .entry)))
+        r (now (directions .exit)) (now (places .exit)) (now (across .exit)) (now (down .exit)) ⌝ }
 {
     let right = (grid.len() == 1024)
         & ((directions.len() == 1024)
@@ -180,11 +185,70 @@ pub fn repair_run(
             links: 0,
         };
     }
-    let outcome = trials::find_plan(n, m, grid, directions, limit);
+    let outcome = repair::find_by(planner, n, m, grid, directions, limit);
     let answer = Answer::Planned(outcome);
     if !is_repaired(outcome) {
         return Ran { answer, links: 0 };
     }
     let links = complete(n, m, grid, directions, places, across, down);
     Ran { answer, links }
+}
+
+// One run: the plan, and after `repaired` the placement, the switches and every link to a neighbour followed. After beyond
+// repair and spent, `places`, `across` and `down` stay as they were lent.
+pub fn repair_run(
+    n: usize,
+    m: usize,
+    grid: &[u8],
+    limit: u32,
+    directions: &mut [u8],
+    places: &mut [u16],
+    across: &mut [u8],
+    down: &mut [u8],
+) -> Ran
+    ensures { λ r. ⌜ Ran-as
+        (given Trials n m (now (grid .entry)) limit
+        (now (directions .entry)) (now (places .entry)) (now (across .entry)) (now (down .entry)))
+        r (now (directions .exit)) (now (places .exit)) (now (across .exit)) (now (down .exit)) ⌝ }
+{
+    run_by(
+        Planner::Trials,
+        n,
+        m,
+        grid,
+        limit,
+        directions,
+        places,
+        across,
+        down,
+    )
+}
+
+// The same with the quick planner.
+pub fn run_quickly(
+    n: usize,
+    m: usize,
+    grid: &[u8],
+    limit: u32,
+    directions: &mut [u8],
+    places: &mut [u16],
+    across: &mut [u8],
+    down: &mut [u8],
+) -> Ran
+    ensures { λ r. ⌜ Ran-as
+        (given Quick n m (now (grid .entry)) limit
+        (now (directions .entry)) (now (places .entry)) (now (across .entry)) (now (down .entry)))
+        r (now (directions .exit)) (now (places .exit)) (now (across .exit)) (now (down .exit)) ⌝ }
+{
+    run_by(
+        Planner::Quick,
+        n,
+        m,
+        grid,
+        limit,
+        directions,
+        places,
+        across,
+        down,
+    )
 }

@@ -4,3 +4,4 @@ pub mod Bench
 pub mod Follows
 pub mod Refusals
 pub mod Dead
+pub mod Quick

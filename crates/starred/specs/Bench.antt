@@ -21,7 +21,7 @@ grid = grid-of 2 2 (33 ∷ [])
 
 -- the directions that the planner writes
 abbrev pub written : List ℕ
-written = directions-written 1000000 (faults 2 2 grid) (planned 2 2 grid)
+written = directions-written 1000000 [] (faults 2 2 grid) (planned 2 2 grid)
 
 pub record Example : Type 0 where
   -- map 2 2 1

@@ -36,7 +36,8 @@ open-paths n m p =
 -- the directions that the planner writes
 abbrev pub written : ℕ → ℕ → ℕ → List ℕ
 written n m p =
-    directions-at (directions-written 1000000 (faults n m (one-dead n m p)) (planned n m (one-dead n m p))) (faults n m (one-dead n m p))
+    let grid = one-dead n m p in
+    directions-at (directions-written 1000000 [] (faults n m grid) (planned n m grid)) (faults n m grid)
 
 -- 2 x 2 with a fault of this mark at (1, 1), its path south, and d and c at the down switches (1, 2) and (1, 1): from (1, 2) down, left, up
 abbrev pub upward : ℕ → Wafer

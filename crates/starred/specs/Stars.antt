@@ -29,7 +29,10 @@ grid s = grid-of (s .rows) (s .columns) (s .faulty)
 
 -- the direction buffer that the planner writes
 abbrev pub written : Star → List ℕ
-written s = directions-written (s .limit) (faults (s .rows) (s .columns) (grid s)) (planned (s .rows) (s .columns) (grid s))
+written s =
+    let n = s .rows in
+    let m = s .columns in
+    directions-written (s .limit) [] (faults n m (grid s)) (planned n m (grid s))
 
 -- letters that are stated are those computed
 abbrev pub Stated : List ℕ → List ℕ → Type 0

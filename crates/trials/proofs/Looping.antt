@@ -20,17 +20,22 @@ use Rattle.trials.specs.Search.{outcome}
 use Rattle.trials.specs.Inner.{kept-in, Kept-front, Holds}
 use Rattle.trials.proofs.Rest.{left, left-one, left-none, left-next, onto, rest, rest-start, rest-done, rest-no, rest-yes, rest-up, rest-over, more-more, more-zero}
 
--- a store past the first k directions changes none of them
-kept-set : (starts chosen : List ℕ) (i d k : ℕ) → k ≤ i → kept-in starts (set chosen i d) k ≡ kept-in starts chosen k
+-- the first k faults with their directions depend on nothing past them
+pub kept-same : (ps qs xs ys : List ℕ) (k : ℕ) → ((i : ℕ) → i < k → getD ps i 0 ≡ getD qs i 0)
+    → ((i : ℕ) → i < k → getD xs i 0 ≡ getD ys i 0) → kept-in ps xs k ≡ kept-in qs ys k
 unfolding kept-in
-kept-set starts chosen i d zero h = refl
-kept-set starts chosen i d (suc k) h =
-    rw (getD-set-other chosen i k d 0 (λ e. omega arith), kept-set starts chosen i d k (omega arith))
+kept-same ps qs xs ys zero f g = refl
+kept-same ps qs xs ys (suc k) f g =
+    let same = kept-same ps qs xs ys k (λ i h. f i (omega arith)) (λ i h. g i (omega arith)) in
+    rw (f k (omega arith), g k (omega arith), same)
 
 kept-store : (starts chosen : List ℕ) (k d : ℕ) → k < length chosen
     → kept-in starts (set chosen k d) (suc k) ≡ fault (getD starts k 0) d ∷ kept-in starts chosen k
 unfolding kept-in
-kept-store starts chosen k d h = rw (getD-set-same chosen k d 0 h, kept-set starts chosen k d k (omega arith))
+kept-store starts chosen k d h =
+    let same = kept-same starts starts (set chosen k d) chosen k (λ i l. refl)
+    (λ i l. getD-set-other chosen k i d 0 (λ e. omega arith)) in
+    rw (getD-set-same chosen k d 0 h, same)
 
 -- the directions kept, in fault order
 onto-append : (starts chosen : List ℕ) (k : ℕ) (xs : List ℕ) → k ≤ length chosen

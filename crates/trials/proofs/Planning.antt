@@ -1,9 +1,9 @@
 -- The parts of the planner put together: from the listed faults to the search, and from its outcome to the whole direction buffer.
 -- Assumes nothing.
 use Prim.Native.Nat.{ℕ, _≤_, _<_}
-use mathlib.Core.Path.{_≡_, ap, sym, subst, _∙_}
+use mathlib.Core.Path.{_≡_, sym, subst}
 use mathlib.Core.Bool.{true}
-use mathlib.Core.List.{List}
+use mathlib.Core.List.{List, []}
 use native.Mathlib.Omega.{arith}
 use lib.ListN.{length, getD, take}
 use Rattle.array.specs.Map.{inner-fault}
@@ -14,7 +14,7 @@ use Rattle.plans.proofs.Facts.{fault-hit, hit-inner-fault, faults-rise}
 use Rattle.trials.specs.declared.Outcome.{Outcome}
 use Rattle.trials.specs.Search.{searched, planned, outcome, directions-written}
 use Rattle.trials.specs.Inner.{Searchable, Holds, finished}
-use Rattle.trials.proofs.Writing.{finished-written}
+use Rattle.trials.proofs.Writing.{first-written}
 
 module _ {n m : ℕ} {grid old out : List ℕ} {count : ℕ} (s : Listed n m grid old out count) where
   pub ready : n ≤ 30 → m ≤ 30 → length grid ≡ 1024 → Searchable n m grid (take count out)
@@ -35,22 +35,14 @@ module _ {n m : ℕ} {grid old out : List ℕ} {count : ℕ} (s : Listed n m gri
       (λ i h. omega (arith, fault-hit n m grid i h .below))
 
   pub planned-end : (limit : ℕ) (chosen directions : List ℕ) (o : Outcome)
-      → o ≡ outcome limit (searched n m grid (take count out))
-      → Holds limit (searched n m grid (take count out)) (take (length (take count out)) chosen)
+      → o ≡ outcome limit (searched n m grid [] (take count out))
+      → Holds limit (searched n m grid [] (take count out)) (take (length (take count out)) chosen)
       → directions ≡ finished (take count out) (take count chosen) o
       → (o ≡ outcome limit (planned n m grid))
-      × (directions ≡ directions-written limit (faults n m grid) (planned n m grid))
+      × (directions ≡ directions-written limit [] (faults n m grid) (planned n m grid))
   unfolding planned
   planned-end limit chosen directions o p h q =
-      let fs = take count out in
-      let r = searched n m grid fs in
       subst
       (λ (l : List ℕ).
-      (o ≡ outcome limit (searched n m grid l)) × (directions ≡ directions-written limit l (searched n m grid l)))
-      (s .front) (
-        p,
-        q
-            ∙ ap (finished fs (take count chosen)) p
-            ∙ ap (λ (k : ℕ). finished fs (take k chosen) (outcome limit r)) (s .size)
-            ∙ finished-written limit fs (take (length fs) chosen) r h,
-      )
+      (o ≡ outcome limit (searched n m grid [] l)) × (directions ≡ directions-written limit [] l (searched n m grid [] l)))
+      (s .front) (p, first-written limit count (take count out) chosen directions _ o (s .size) p h q)

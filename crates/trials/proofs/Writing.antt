@@ -3,17 +3,18 @@
 use Prim.Native.Nat.{ℕ, suc, _≤_, _<_, _-_}
 use mathlib.Core.Path.{_≡_, ap, sym, _∙_}
 use mathlib.Core.Bool.{cond}
-use mathlib.Core.List.{List}
+use mathlib.Core.List.{List, []}
 use native.Mathlib.Omega.{arith}
 use borrow.Author.Tests.{eq-eqb, ne-eqb, leb-true}
 use lib.Dec.{eqb, leb}
-use lib.ListN.{length, getD, set, drop, length-set}
+use lib.ListN.{length, getD, set, take, drop, length-set}
 use lib.Seq.{drop-cons, drop-length, getD-set-same, getD-set-other, ext-getD}
 use Rattle.array.specs.Buffer.{buffer, zeros, nothing-at}
 use Rattle.array.proofs.Bools.{by-eq, by-bool}
 use Rattle.array.proofs.Fills.{tabulate-length, tabulate-at}
 use Rattle.plans.specs.Faults.{paired}
 use Rattle.trials.specs.Trials.{Search, found, exhausted}
+use Rattle.trials.specs.declared.Outcome.{Outcome}
 use Rattle.trials.specs.Search.{outcome, direction-of, directions-written}
 use Rattle.trials.specs.Inner.{Holds, finished}
 
@@ -74,8 +75,8 @@ module _ (starts chosen : List ℕ) where
       s .right p l ∙ ap (λ (i : ℕ). from i p) z ∙ sym (tabulate-at (from 0) 1024 p 0 l))
 
 -- the buffer by the outcome is that of the trials, where these directions are the plan found
-pub finished-written : (limit : ℕ) (starts xs : List ℕ) (s : Search) → Holds limit s xs
-    → finished starts xs (outcome limit s) ≡ directions-written limit starts s
+finished-written : (limit : ℕ) (starts xs : List ℕ) (s : Search) → Holds limit s xs
+    → finished starts xs (outcome limit s) ≡ directions-written limit [] starts s
 unfolding finished outcome directions-written
 finished-written limit starts xs (found k ys) h =
     by-bool (leb k limit)
@@ -83,3 +84,13 @@ finished-written limit starts xs (found k ys) h =
     (λ e. rw (e, finished))
 finished-written limit starts xs (exhausted k) h =
     by-bool (leb k limit) (λ e. rw (e, finished)) (λ e. rw (e, finished))
+
+-- the same of a buffer that was written with the first k directions, where there are k starts
+pub first-written : (limit k : ℕ) (starts chosen directions : List ℕ) (s : Search) (o : Outcome) → k ≡ length starts
+    → o ≡ outcome limit s → Holds limit s (take (length starts) chosen) → directions ≡ finished starts (take k chosen) o
+    → directions ≡ directions-written limit [] starts s
+first-written limit k starts chosen directions s o z p h q =
+    q
+    ∙ ap (finished starts (take k chosen)) p
+    ∙ ap (λ (i : ℕ). finished starts (take i chosen) (outcome limit s)) z
+    ∙ finished-written limit starts (take (length starts) chosen) s h

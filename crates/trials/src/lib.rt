@@ -1,6 +1,7 @@
 // The search for a plan. The functions are inner parts of the planner: each requires what the planner has tested.
 use paths::CLEAR;
 ghost use mathlib.Core.Path.{_≡_};
+ghost use mathlib.Core.List.{[]};
 ghost use Prim.Native.Nat.{ℕ, _≤_, _<_};
 ghost use lib.ListN.{length, getD, take};
 ghost use Rattle.array.specs.Buffer.{buffer, zeros};
@@ -120,8 +121,8 @@ fn search(
     limit: u32,
 ) -> Outcome
     requires { ⌜ Ready n m (now grid) (now starts) (now rows) (now columns) (now table) (now notes) (now chosen) ⌝ }
-    ensures outcome { λ r. ⌜ r ≡ outcome limit (searched n m (now (grid .entry)) (now (starts .entry))) ⌝ }
-    ensures plan { λ _. ⌜ Holds limit (searched n m (now (grid .entry)) (now (starts .entry)))
+    ensures outcome { λ r. ⌜ r ≡ outcome limit (searched n m (now (grid .entry)) [] (now (starts .entry))) ⌝ }
+    ensures plan { λ _. ⌜ Holds limit (searched n m (now (grid .entry)) [] (now (starts .entry)))
         (take (length (now (starts .entry))) (now (chosen .exit))) ⌝ }
 {
     let mut k: usize = 0;
@@ -164,7 +165,7 @@ fn search(
 }
 
 // Inner part: the search, over room of its own.
-fn search_within(
+pub fn search_within(
     n: usize,
     m: usize,
     grid: &[u8],
@@ -173,8 +174,8 @@ fn search_within(
     limit: u32,
 ) -> Outcome
     requires { ⌜ Searchable n m (now grid) (now starts) × (length (now starts) ≤ 1024) × (length (now starts) ≤ length (now chosen)) ⌝ }
-    ensures outcome { λ r. ⌜ r ≡ outcome limit (searched n m (now (grid .entry)) (now (starts .entry))) ⌝ }
-    ensures plan { λ _. ⌜ Holds limit (searched n m (now (grid .entry)) (now (starts .entry)))
+    ensures outcome { λ r. ⌜ r ≡ outcome limit (searched n m (now (grid .entry)) [] (now (starts .entry))) ⌝ }
+    ensures plan { λ _. ⌜ Holds limit (searched n m (now (grid .entry)) [] (now (starts .entry)))
         (take (length (now (starts .entry))) (now (chosen .exit))) ⌝ }
 {
     let mut rows = [0u8; 1024];
@@ -221,7 +222,7 @@ fn write_plan(starts: &[u16], chosen: &[u8], directions: &mut [u8])
 }
 
 // Inner part: writes the direction buffer by the outcome: the directions chosen, or 0 everywhere.
-fn write_found(found: Outcome, starts: &[u16], chosen: &[u8], directions: &mut [u8])
+pub fn write_found(found: Outcome, starts: &[u16], chosen: &[u8], directions: &mut [u8])
     requires { ⌜ (length (now directions) ≡ 1024) × (length (now starts) ≤ length (now chosen))
         × ((i : ℕ) → i < length (now starts) → getD (now starts) i 0 < 1024) ⌝ }
     ensures { λ _. ⌜ now (directions .exit) ≡ finished (now (starts .entry)) (now (chosen .entry)) found ⌝ }
@@ -237,7 +238,8 @@ fn write_found(found: Outcome, starts: &[u16], chosen: &[u8], directions: &mut [
 pub fn find_plan(n: usize, m: usize, grid: &[u8], directions: &mut [u8], limit: u32) -> Outcome
     requires { ⌜ (n ≤ 30) × (m ≤ 30) × (length (now grid) ≡ 1024) × (length (now directions) ≡ 1024) ⌝ }
     ensures { λ r. ⌜ (r ≡ outcome limit (planned n m (now (grid .entry))))
-        × (now (directions .exit) ≡ directions-written limit (faults n m (now (grid .entry))) (planned n m (now (grid .entry)))) ⌝ }
+        × (now (directions .exit)
+        ≡ directions-written limit [] (faults n m (now (grid .entry))) (planned n m (now (grid .entry)))) ⌝ }
 {
     let mut starts = [0u16; 1024];
     let mut chosen = [0u8; 1024];

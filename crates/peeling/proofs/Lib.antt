@@ -1,0 +1,13 @@
+pub mod Outward
+pub mod Exchange
+pub mod Picking
+pub mod Settlings
+pub mod Unhindered
+pub mod Completed
+pub mod Theorems
+pub mod Depths
+pub mod Sides
+pub mod Removing
+pub mod Looping
+pub mod Held
+pub mod Planning

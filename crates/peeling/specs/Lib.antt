@@ -1,0 +1,4 @@
+pub mod Peel
+pub mod Settling
+pub mod Theorems
+pub mod Inner
