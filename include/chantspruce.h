@@ -20,6 +20,9 @@
  *         chantspruce_route_switches(map.rows, map.columns, grid, B, directions, B, across, B, down, B);
  *     }
  *
+ * In place of chantspruce_plan_repair a controller may call chantspruce_plan_quickly, which usually takes fewer trials.
+ * Each of the two may decide a map on which the other is spent.
+ *
  * Link with libcapi.a (`rt staticlib capi` writes target/staticlib/libcapi.a, for x86-64 Linux; it needs memcpy and memset and nothing else).
  * tests/c/controller.c is a small program over it.
  *
@@ -95,9 +98,9 @@
  *  - A buffer that a call writes to (a parameter that is no pointer to const) overlaps no other buffer of the same call. Two buffers
  *    that are only read may be the same.
  *  - While a call runs, nothing else writes to its buffers, and nothing else reads those that it writes to.
- *  - CHANTSPRUCE_STACK bytes of stack are free. (This is measured and not proved: chantspruce_report takes 48 KiB, chantspruce_check_fault_list
- *    16 KiB, any other function less than 12 KiB.) Nothing is allocated and nothing is kept between calls, so that calls on different buffers
- *    may run at the same time.
+ *  - CHANTSPRUCE_STACK bytes of stack are free. (This is measured and not proved: each of the two listings takes less
+ *    than 52 KiB, any other function less than 16 KiB.) Nothing is allocated and nothing is kept between calls, so that
+ *    calls on different buffers may run at the same time.
  * Where one of these is not met the behaviour is undefined, and nothing is promised of the result.
  */
 #ifndef CHANTSPRUCE_H
@@ -165,7 +168,7 @@ enum {
     CHANTSPRUCE_PORT_S = 3
 };
 
-/* OUTCOMES OF THE PLANNER */
+/* OUTCOMES OF A PLANNER */
 
 enum {
     CHANTSPRUCE_NO_OUTCOME = 0, /* the call is refused */
@@ -246,7 +249,7 @@ typedef struct chantspruce_verdict {
     size_t second;
 } chantspruce_verdict;
 
-/* Of the planner and of a run. */
+/* Of the planners and of the runs. */
 typedef struct chantspruce_plan {
     uint32_t number;
     size_t place;
@@ -285,7 +288,7 @@ typedef struct chantspruce_head {
     size_t count;   /* of faults, spares and dead processors among them, or of paths */
 } chantspruce_head;
 
-/* Of the file writers and of the listing. */
+/* Of the file writers and of the listings. */
 typedef struct chantspruce_length {
     uint32_t number;
     size_t place;
@@ -306,6 +309,24 @@ chantspruce_plan chantspruce_plan_repair(size_t rows, size_t columns,
                                          const uint8_t *grid, size_t grid_length,
                                          uint8_t *directions, size_t directions_length,
                                          uint32_t limit);
+
+/* The quick planner: it does the same, but settles outer faults before any trial. The sides are west, east, north and
+ * south, in this order. For each it looks only at one line, the outermost with an unsettled fault inside the array: for
+ * west the leftmost such column, for east the rightmost, for north the uppermost such row, for south the lowest. On the
+ * first of these sides that has one, the fault of lowest position whose path there is open is settled with this path.
+ * This is done again, with the lines of the faults that are still unsettled and from west on, until no side has such a
+ * fault. A settled fault still closes every other path that runs over it. The faults that are left are offered directions
+ * as above, beside the settled paths, and only these offers are trials. They are usually few, and none where all faults
+ * are settled.
+ * The outcome is _SPENT exactly where these trials are more than `limit`; else _BEYOND exactly where there is no plan;
+ * else _REPAIRED. So, where neither planner is spent, both have the same outcome; and each may decide a map on which the
+ * other is spent. The plan may be another one.
+ * After _BEYOND and _SPENT the whole of `directions` is 0.
+ * Refuses 1, 2, 3, in this order. */
+chantspruce_plan chantspruce_plan_quickly(size_t rows, size_t columns,
+                                          const uint8_t *grid, size_t grid_length,
+                                          uint8_t *directions, size_t directions_length,
+                                          uint32_t limit);
 
 /* Writes to `places` which processor holds each cell, for a plan.
  * Refuses 1 to 7, in this order, 6 and 7 pair by pair: what it refuses is no plan for this grid. */
@@ -335,8 +356,9 @@ chantspruce_link chantspruce_follow_link(size_t rows, size_t columns,
                                          const uint8_t *down, size_t down_length,
                                          size_t cell, size_t side);
 
-/* One run: the planner, and after _REPAIRED also the other three, with every link to a neighbour followed. `links` is then
- * N * (M - 1) + M * (N - 1), all of these links. After _BEYOND and _SPENT `places`, `across` and `down` are as before the call.
+/* One run: chantspruce_plan_repair, and after _REPAIRED also the placement, the routing and the follower, for every link
+ * to a neighbour. `links` is then N * (M - 1) + M * (N - 1), all of these links. After _BEYOND and _SPENT `places`,
+ * `across` and `down` are as before the call.
  * Refuses 1, 2 (of any of the five buffers), 3, in this order. */
 chantspruce_plan chantspruce_repair_run(size_t rows, size_t columns,
                                         const uint8_t *grid, size_t grid_length,
@@ -345,6 +367,16 @@ chantspruce_plan chantspruce_repair_run(size_t rows, size_t columns,
                                         uint16_t *places, size_t places_length,
                                         uint8_t *across, size_t across_length,
                                         uint8_t *down, size_t down_length);
+
+/* The same run with chantspruce_plan_quickly in place of chantspruce_plan_repair.
+ * Refuses 1, 2 (of any of the five buffers), 3, in this order. */
+chantspruce_plan chantspruce_run_quickly(size_t rows, size_t columns,
+                                         const uint8_t *grid, size_t grid_length,
+                                         uint32_t limit,
+                                         uint8_t *directions, size_t directions_length,
+                                         uint16_t *places, size_t places_length,
+                                         uint8_t *across, size_t across_length,
+                                         uint8_t *down, size_t down_length);
 
 /* Tells whether `directions` is a plan for the grid, whoever made it. It writes nothing.
  * Refuses 1 to 7, in this order, 6 and 7 pair by pair: pairs are taken by the first path and then by the second, in row order. */
@@ -392,8 +424,9 @@ chantspruce_length chantspruce_write_plan(size_t rows, size_t columns,
                                           const uint8_t *directions, size_t directions_length,
                                           uint8_t *out, size_t out_length);
 
-/* Writes the listing of a map file, as lines of ASCII text without a 0 at the end, to `out`, which has room for `out_length` bytes, and keeps
- * the bytes after it. CHANTSPRUCE_LISTING_ROOM is always enough. The planner's limit is 1,000,000 trials. The lines are
+/* Writes the listing of a map file, as lines of ASCII text without a 0 at the end, to `out`, which has room for
+ * `out_length` bytes, and keeps the bytes after it. CHANTSPRUCE_LISTING_ROOM is always enough. The map is planned as by
+ * chantspruce_plan_repair, with a limit of 1,000,000 trials. The lines are
  *     map N M faults                      all faults, spares and dead processors among them
  *     repaired trials | beyond trials | spent limit
  *     path row column letter              of each fault inside the array, in row order; the letter is S, N, E or W
@@ -405,6 +438,11 @@ chantspruce_length chantspruce_write_plan(size_t rows, size_t columns,
  * Refuses 14. */
 chantspruce_length chantspruce_report(const uint8_t *file, size_t file_length,
                                       uint8_t *out, size_t out_length);
+
+/* The same listing, planned as by chantspruce_plan_quickly.
+ * Refuses 14. */
+chantspruce_length chantspruce_report_quickly(const uint8_t *file, size_t file_length,
+                                              uint8_t *out, size_t out_length);
 
 /* The library is built for machines whose size_t has 64 bits and is aligned to 8 bytes. */
 typedef char chantspruce_size_t_has_64_bits[sizeof(size_t) == 8 ? 1 : -1];

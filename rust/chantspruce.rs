@@ -183,7 +183,7 @@ impl fmt::Display for Refusal {
 
 impl core::error::Error for Refusal {}
 
-/// What the planner found.
+/// What a planner found.
 #[derive(Clone, Copy, Debug, PartialEq, Eq)]
 pub enum Outcome {
     /// There is a plan, and this many trials found it.
@@ -273,6 +273,14 @@ pub fn plan_repair(n: usize, m: usize, grid: &[u8], directions: &mut [u8], limit
     flat::plan_repair(n, m, grid, directions, limit).outcome()
 }
 
+/// The same by the quick planner. It settles outer faults first, each with its path straight outward, and tries
+/// directions only for the others; only these trials are counted, and they are usually few. Where neither planner is
+/// spent, both say `Beyond` of the same maps; each may decide a map on which the other is spent. The plan may be another
+/// one than that of [`plan_repair`].
+pub fn plan_quickly(n: usize, m: usize, grid: &[u8], directions: &mut [u8], limit: u32) -> Result<Outcome, Refusal> {
+    flat::plan_quickly(n, m, grid, directions, limit).outcome()
+}
+
 /// Fills `places`: at the position of each cell the position of the processor that holds it, 0 elsewhere. Refusals: 1 to 7.
 pub fn place_cells(n: usize, m: usize, grid: &[u8], directions: &[u8], places: &mut [u16]) -> Result<(), Refusal> {
     flat::place_cells(n, m, grid, directions, places).answer()
@@ -314,6 +322,21 @@ pub fn repair_run(
     flat::repair_run(n, m, grid, limit, directions, places, across, down).run()
 }
 
+/// The same with the quick planner, as [`plan_quickly`] plans.
+#[allow(clippy::too_many_arguments)]
+pub fn run_quickly(
+    n: usize,
+    m: usize,
+    grid: &[u8],
+    limit: u32,
+    directions: &mut [u8],
+    places: &mut [u16],
+    across: &mut [u8],
+    down: &mut [u8],
+) -> Result<Run, Refusal> {
+    flat::run_quickly(n, m, grid, limit, directions, places, across, down).run()
+}
+
 /// Reads the number at the offset `at` of `file`. Refusals: 8 and 9.
 pub fn read_number(file: &[u8], at: usize) -> Result<Number, Refusal> {
     flat::read_number(file, at).answer()
@@ -347,6 +370,11 @@ pub fn report(file: &[u8], out: &mut [u8]) -> Result<usize, Refusal> {
     flat::report(file, out).answer()
 }
 
+/// The same with the quick planner, as [`plan_quickly`] plans.
+pub fn report_quickly(file: &[u8], out: &mut [u8]) -> Result<usize, Refusal> {
+    flat::report_quickly(file, out).answer()
+}
+
 /// The functions of the same names with the library's own structs, as include/chantspruce.h declares them for C. A struct's `number` is 0 for an
 /// accepted call and else the number of the refusal; the fields after `second` are 0 for a refused one.
 #[allow(clippy::too_many_arguments)]
@@ -362,7 +390,8 @@ pub mod flat {
         pub second: usize,
     }
 
-    /// Of the planner and the run. `outcome` is 1 repaired, 2 beyond repair, 3 spent; `count` the trials, or the limit for spent.
+    /// Of the planners and the runs. `outcome` is 1 repaired, 2 beyond repair, 3 spent; `count` the trials, or the limit
+    /// for spent.
     #[repr(C)]
     #[derive(Clone, Copy, Debug, PartialEq, Eq)]
     pub struct Planned {
@@ -409,7 +438,7 @@ pub mod flat {
         pub count: usize,
     }
 
-    /// Of the file writers and the listing.
+    /// Of the file writers and the listings.
     #[repr(C)]
     #[derive(Clone, Copy, Debug, PartialEq, Eq)]
     pub struct Written {
@@ -435,7 +464,7 @@ pub mod flat {
     }
 
     impl Planned {
-        /// The planner's answer.
+        /// A planner's answer.
         pub fn outcome(self) -> Result<Outcome, Refusal> {
             let outcome = match self.outcome {
                 1 => Some(Outcome::Repaired(self.count)),
@@ -446,7 +475,7 @@ pub mod flat {
             answer(self.number, self.place, self.second, outcome)
         }
 
-        /// The run's answer.
+        /// A run's answer.
         pub fn run(self) -> Result<Run, Refusal> {
             self.outcome().map(|outcome| Run { outcome, links: self.links })
         }
@@ -511,6 +540,15 @@ pub mod flat {
             directions_len: usize,
             limit: u32,
         ) -> Planned;
+        fn chantspruce_plan_quickly(
+            n: usize,
+            m: usize,
+            grid: Bytes,
+            grid_len: usize,
+            directions: BytesMut,
+            directions_len: usize,
+            limit: u32,
+        ) -> Planned;
         fn chantspruce_place_cells(
             n: usize,
             m: usize,
@@ -562,12 +600,28 @@ pub mod flat {
             down: BytesMut,
             down_len: usize,
         ) -> Planned;
+        fn chantspruce_run_quickly(
+            n: usize,
+            m: usize,
+            grid: Bytes,
+            grid_len: usize,
+            limit: u32,
+            directions: BytesMut,
+            directions_len: usize,
+            places: WordsMut,
+            places_len: usize,
+            across: BytesMut,
+            across_len: usize,
+            down: BytesMut,
+            down_len: usize,
+        ) -> Planned;
         fn chantspruce_read_number(file: Bytes, file_len: usize, at: usize) -> NumberRead;
         fn chantspruce_read_map(file: Bytes, file_len: usize, grid: BytesMut, grid_len: usize) -> FileRead;
         fn chantspruce_read_plan(file: Bytes, file_len: usize, directions: BytesMut, directions_len: usize) -> FileRead;
         fn chantspruce_write_map(n: usize, m: usize, grid: Bytes, grid_len: usize, out: BytesMut, out_len: usize) -> Written;
         fn chantspruce_write_plan(n: usize, m: usize, directions: Bytes, directions_len: usize, out: BytesMut, out_len: usize) -> Written;
         fn chantspruce_report(file: Bytes, file_len: usize, out: BytesMut, out_len: usize) -> Written;
+        fn chantspruce_report_quickly(file: Bytes, file_len: usize, out: BytesMut, out_len: usize) -> Written;
     }
 
     // SAFETY, of each call below: the library reads and writes within the lengths that it is given and keeps no pointer; a slice is valid for
@@ -586,6 +640,11 @@ pub mod flat {
     pub fn plan_repair(n: usize, m: usize, grid: &[u8], directions: &mut [u8], limit: u32) -> Planned {
         let (g, d) = (grid, directions);
         unsafe { chantspruce_plan_repair(n, m, g.as_ptr(), g.len(), d.as_mut_ptr(), d.len(), limit) }
+    }
+
+    pub fn plan_quickly(n: usize, m: usize, grid: &[u8], directions: &mut [u8], limit: u32) -> Planned {
+        let (g, d) = (grid, directions);
+        unsafe { chantspruce_plan_quickly(n, m, g.as_ptr(), g.len(), d.as_mut_ptr(), d.len(), limit) }
     }
 
     pub fn place_cells(n: usize, m: usize, grid: &[u8], directions: &[u8], places: &mut [u16]) -> Verdict {
@@ -646,6 +705,36 @@ pub mod flat {
         }
     }
 
+    pub fn run_quickly(
+        n: usize,
+        m: usize,
+        grid: &[u8],
+        limit: u32,
+        directions: &mut [u8],
+        places: &mut [u16],
+        across: &mut [u8],
+        down: &mut [u8],
+    ) -> Planned {
+        let (g, d, p, a, b) = (grid, directions, places, across, down);
+        unsafe {
+            chantspruce_run_quickly(
+                n,
+                m,
+                g.as_ptr(),
+                g.len(),
+                limit,
+                d.as_mut_ptr(),
+                d.len(),
+                p.as_mut_ptr(),
+                p.len(),
+                a.as_mut_ptr(),
+                a.len(),
+                b.as_mut_ptr(),
+                b.len(),
+            )
+        }
+    }
+
     pub fn read_number(file: &[u8], at: usize) -> NumberRead {
         unsafe { chantspruce_read_number(file.as_ptr(), file.len(), at) }
     }
@@ -668,5 +757,9 @@ pub mod flat {
 
     pub fn report(file: &[u8], out: &mut [u8]) -> Written {
         unsafe { chantspruce_report(file.as_ptr(), file.len(), out.as_mut_ptr(), out.len()) }
+    }
+
+    pub fn report_quickly(file: &[u8], out: &mut [u8]) -> Written {
+        unsafe { chantspruce_report_quickly(file.as_ptr(), file.len(), out.as_mut_ptr(), out.len()) }
     }
 }

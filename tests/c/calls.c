@@ -21,6 +21,9 @@ static const uint8_t unordered_plan_file[] = {2, 2, 2, 2, 1, CHANTSPRUCE_SOUTH, 
 static const uint8_t dead_map_file[] = {2, 2, 0, 1, 2, 2};
 static const uint8_t dead_spare_file[] = {2, 2, 0, 1, 3, 2};
 
+/* 3 x 3 cells with faults at row 1, column 1 and at row 3, column 3, and with faulty spares outside of them: none is settled */
+static const uint8_t unsettled_map_file[] = {3, 3, 6, 0, 1, 1, 0, 1, 1, 3, 3, 3, 4, 4, 3};
+
 static void print_first(const char *call, uint32_t number, size_t place, size_t second)
 {
     printf("%s: number %u, place %zu, second %zu", call, (unsigned)number, place, second);
@@ -38,9 +41,9 @@ static void print_head(const char *call, chantspruce_head a)
     printf(", rows %zu, columns %zu, count %zu\n", a.rows, a.columns, a.count);
 }
 
-static void print_run(chantspruce_plan a)
+static void print_plan(const char *call, chantspruce_plan a)
 {
-    print_first("repair_run", a.number, a.place, a.second);
+    print_first(call, a.number, a.place, a.second);
     printf(", outcome %u, count %u, links %zu\n", (unsigned)a.outcome, (unsigned)a.count, a.links);
 }
 
@@ -48,6 +51,13 @@ static void print_link(chantspruce_link a)
 {
     print_first("follow_link", a.number, a.place, a.second);
     printf(", position %zu, port %u, switches %u\n", a.position, (unsigned)a.port, (unsigned)a.switches);
+}
+
+/* Prints a result and the listing that it tells of. */
+static void print_listing(const char *call, chantspruce_length a)
+{
+    print_first(call, a.number, a.place, a.second);
+    printf(", length %zu\n%.*s", a.length, (int)a.length, (const char *)out);
 }
 
 /* Prints a result and the bytes that it tells of. */
@@ -80,13 +90,20 @@ static void call_writers(void)
     print_bytes("write_plan", chantspruce_write_plan(2, 3, directions, B - 1, out, sizeof out));
 }
 
+/* Prints what a run has written at the fault of the first map. */
+static void print_fault(void)
+{
+    const size_t fault = CHANTSPRUCE_POSITION(1, 1);
+    printf("cell [1, 1] is at %u, the switches right of and below the fault are %c and %c\n", (unsigned)places[fault],
+           across[fault], down[fault]);
+}
+
 static void call_run(void)
 {
-    print_run(chantspruce_repair_run(2, 2, grid, B, 1000, directions, B, places, B, across, B, down, B));
-    printf("cell [1, 1] is at %u, the switches right of and below the fault are %c and %c\n", (unsigned)places[CHANTSPRUCE_POSITION(1, 1)],
-           across[CHANTSPRUCE_POSITION(1, 1)], down[CHANTSPRUCE_POSITION(1, 1)]);
-    print_run(chantspruce_repair_run(2, 2, grid, B, 0, directions, B, places, B, across, B, down, B));
-    print_run(chantspruce_repair_run(2, 3, grid, B, 1000, directions, B, places, B, across, B, down, B));
+    print_plan("repair_run", chantspruce_repair_run(2, 2, grid, B, 1000, directions, B, places, B, across, B, down, B));
+    print_fault();
+    print_plan("repair_run", chantspruce_repair_run(2, 2, grid, B, 0, directions, B, places, B, across, B, down, B));
+    print_plan("repair_run", chantspruce_repair_run(2, 3, grid, B, 1000, directions, B, places, B, across, B, down, B));
 }
 
 static void call_checks(void)
@@ -108,7 +125,7 @@ static void call_dead(void)
     print_head("read_map", chantspruce_read_map(dead_spare_file, sizeof dead_spare_file, grid, B));
     print_head("read_map", chantspruce_read_map(dead_map_file, sizeof dead_map_file, grid, B));
     print_bytes("write_map", chantspruce_write_map(2, 2, grid, B, out, sizeof out));
-    print_run(chantspruce_repair_run(2, 2, grid, B, 1000, directions, B, places, B, across, B, down, B));
+    print_plan("repair_run", chantspruce_repair_run(2, 2, grid, B, 1000, directions, B, places, B, across, B, down, B));
     printf("the path of the dead processor has direction %u\n", (unsigned)directions[dead]);
     print_link(chantspruce_follow_link(2, 2, grid, B, directions, B, across, B, down, B, dead, CHANTSPRUCE_SIDE_SOUTH));
     grid[dead] = CHANTSPRUCE_FAULTY;
@@ -120,6 +137,25 @@ static void call_dead(void)
     puts("");
 }
 
+/* The quick planner: a fault that is settled, so that there is no trial, and two that take three trials. */
+static void call_quickly(void)
+{
+    print_head("read_map", chantspruce_read_map(map_file, sizeof map_file, grid, B));
+    print_plan("plan_quickly", chantspruce_plan_quickly(2, 2, grid, B, directions, B, 0));
+    printf("the path of the fault has direction %u\n", (unsigned)directions[CHANTSPRUCE_POSITION(1, 1)]);
+    print_plan("plan_quickly", chantspruce_plan_quickly(2, 3, grid, B, directions, B, 1000));
+    print_plan("run_quickly", chantspruce_run_quickly(2, 2, grid, B, 0, directions, B, places, B, across, B, down, B));
+    print_fault();
+    print_plan("run_quickly", chantspruce_run_quickly(2, 2, grid, B, 0, directions, B, places, B - 1, across, B, down, B));
+    print_listing("report_quickly", chantspruce_report_quickly(map_file, sizeof map_file, out, sizeof out));
+    print_bytes("report_quickly", chantspruce_report_quickly(map_file, sizeof map_file, out, 10));
+    print_head("read_map", chantspruce_read_map(unsettled_map_file, sizeof unsettled_map_file, grid, B));
+    print_plan("plan_quickly", chantspruce_plan_quickly(3, 3, grid, B, directions, B, 3));
+    print_bytes("write_plan", chantspruce_write_plan(3, 3, directions, B, out, sizeof out));
+    print_plan("plan_quickly", chantspruce_plan_quickly(3, 3, grid, B, directions, B, 2));
+    print_bytes("write_plan", chantspruce_write_plan(3, 3, directions, B, out, sizeof out));
+}
+
 int main(void)
 {
     call_readers();
@@ -127,9 +163,8 @@ int main(void)
     call_run();
     call_checks();
     call_dead();
-    chantspruce_length listing = chantspruce_report(map_file, sizeof map_file, out, sizeof out);
-    print_first("report", listing.number, listing.place, listing.second);
-    printf(", length %zu\n%.*s", listing.length, (int)listing.length, (const char *)out);
+    call_quickly();
+    print_listing("report", chantspruce_report(map_file, sizeof map_file, out, sizeof out));
     print_bytes("report", chantspruce_report(map_file, sizeof map_file, out, 10));
     return 0;
 }

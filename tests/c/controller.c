@@ -1,5 +1,6 @@
 /*
- * A field controller over the library: plans the repair of a map file, checks the plan, follows every link, and prints the switches.
+ * A field controller over the library: plans the repair of a map file, with the quick planner where the other one is spent,
+ * checks the plan, follows every link, and prints the switches.
  *
  *     controller [FILE]
  *
@@ -206,6 +207,16 @@ static int complete(wafer *w)
     return found == links ? DONE : BROKEN;
 }
 
+/* Plans a map, with the quick planner where the other one is spent. */
+static chantspruce_plan plan_map(wafer *w)
+{
+    chantspruce_plan plan = chantspruce_plan_repair(w->rows, w->columns, w->grid, B, w->directions, B, LIMIT);
+    if (plan.outcome != CHANTSPRUCE_SPENT)
+        return plan;
+    printf("not decided within %u trials; now the quick planner\n", (unsigned)plan.count);
+    return chantspruce_plan_quickly(w->rows, w->columns, w->grid, B, w->directions, B, LIMIT);
+}
+
 /* Plans the repair of a map file. */
 static int repair(const uint8_t *file, size_t length)
 {
@@ -218,7 +229,7 @@ static int repair(const uint8_t *file, size_t length)
     w.rows = map.rows;
     w.columns = map.columns;
     printf("%zu x %zu cells, faults: %zu\n", map.rows, map.columns, map.count);
-    chantspruce_plan plan = chantspruce_plan_repair(w.rows, w.columns, w.grid, B, w.directions, B, LIMIT);
+    chantspruce_plan plan = plan_map(&w);
     if (plan.number != CHANTSPRUCE_ACCEPTED)
         return broken("the map", plan.number, plan.place);
     switch (plan.outcome) {

@@ -147,7 +147,7 @@ fn print(operation: &Operation, tally: &Tally) {
     let total: usize = tally.answers.values().sum();
     println!("{}: {total} calls, {} of the accepted ones 30 x 30", operation.name, tally.largest);
     for (&kind, count) in &tally.answers {
-        println!("    {:<20} {count:>8}", operations::kind_name(kind));
+        println!("    {:<36} {count:>8}", operations::kind_name(kind));
     }
 }
 
@@ -173,6 +173,6 @@ fn main() -> ExitCode {
     if !OPERATIONS.iter().all(passes) {
         return ExitCode::FAILURE;
     }
-    println!("all {} operations agree with the reference", OPERATIONS.len());
+    println!("all {} comparisons agree with the reference", OPERATIONS.len());
     ExitCode::SUCCESS
 }

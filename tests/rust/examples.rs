@@ -1,13 +1,17 @@
-//! Document 01's worked maps and some with dead processors, on which the reference itself is tried before it judges the library.
+//! Document 01's worked maps, some with dead processors and some for the quick planner, on which the reference itself is
+//! tried before it judges the library.
 
-use crate::reference::{self, Cell, LENGTH, Outcome, position};
+use crate::reference::{self, Cell, LENGTH, Outcome, Planner, position, search_all, settle_and_search};
 
 /// Size, faults, dead processors, limit, the outcome, and the directions in fault order.
 struct Example(usize, usize, &'static [Cell], &'static [Cell], u32, Outcome, &'static str);
 
 const LARGE: u32 = 1_000_000;
 
-const EXAMPLES: [Example; 16] = [
+/// Faults of a 5 x 9 map that takes the quick planner more trials than the first one.
+const DEARER_QUICKLY: [Cell; 10] = [(0, 6), (1, 7), (2, 6), (3, 0), (3, 2), (3, 4), (3, 6), (4, 9), (4, 10), (6, 9)];
+
+const EXAMPLES: [Example; 17] = [
     Example(2, 2, &[], &[], LARGE, Outcome::Repaired(0), ""),
     Example(2, 2, &[(1, 1)], &[], LARGE, Outcome::Repaired(1), "S"),
     Example(2, 2, &[(1, 1), (2, 1)], &[], LARGE, Outcome::Repaired(3), "NS"),
@@ -24,6 +28,33 @@ const EXAMPLES: [Example; 16] = [
     Example(3, 3, &[], &[(2, 1)], LARGE, Outcome::Repaired(3), "E"),
     Example(3, 3, &[], &[(2, 3)], LARGE, Outcome::Repaired(4), "W"),
     Example(3, 3, &[], &[(2, 2)], LARGE, Outcome::Beyond(4), ""),
+    Example(5, 9, &DEARER_QUICKLY, &[], LARGE, Outcome::Repaired(10), "SWSSSN"),
+];
+
+/// The same for the quick planner.
+const QUICK_EXAMPLES: [Example; 16] = [
+    Example(2, 2, &[], &[], LARGE, Outcome::Repaired(0), ""),
+    Example(2, 2, &[(1, 1)], &[], 0, Outcome::Repaired(0), "W"),
+    // a settled fault still blocks
+    Example(2, 3, &[(1, 1), (1, 2)], &[], LARGE, Outcome::Repaired(0), "WE"),
+    Example(2, 2, &[(1, 1), (1, 2), (2, 1), (2, 2)], &[], LARGE, Outcome::Repaired(0), "WEWE"),
+    // a closed path in the smallest column does not make the next column count
+    Example(3, 3, &[(1, 0), (1, 1), (2, 2)], &[], LARGE, Outcome::Repaired(0), "EE"),
+    // after a settling north, west comes first again
+    Example(3, 3, &[(1, 0), (1, 1), (2, 2), (2, 4)], &[], LARGE, Outcome::Repaired(0), "NW"),
+    // nothing is settled
+    Example(3, 3, &[(0, 1), (1, 0), (1, 1), (3, 3), (3, 4), (4, 3)], &[], LARGE, Outcome::Repaired(3), "SN"),
+    Example(2, 2, &[(0, 1), (1, 0), (1, 1), (1, 3), (2, 0), (2, 2), (2, 3), (3, 2)], &[], LARGE, Outcome::Beyond(8), ""),
+    // the first of three faults is settled
+    Example(4, 4, &[(0, 1), (1, 4), (2, 0), (2, 1), (4, 3), (4, 5), (5, 3)], &[], LARGE, Outcome::Repaired(3), "ESN"),
+    Example(4, 4, &[(0, 1), (1, 4), (2, 0), (2, 1), (4, 3), (4, 5), (5, 3)], &[], 2, Outcome::Spent(2), ""),
+    Example(3, 3, &[], &[(2, 3)], LARGE, Outcome::Repaired(0), "W"),
+    Example(3, 3, &[], &[(2, 1)], LARGE, Outcome::Repaired(0), "E"),
+    Example(3, 3, &[], &[(2, 2)], LARGE, Outcome::Beyond(4), ""),
+    Example(2, 2, &[(1, 1)], &[(2, 2)], LARGE, Outcome::Repaired(0), "WW"),
+    // only the first fault is settled, and the trials are more than without the settling
+    Example(5, 9, &DEARER_QUICKLY, &[], 68, Outcome::Spent(68), ""),
+    Example(5, 9, &DEARER_QUICKLY, &[], 69, Outcome::Repaired(69), "NWSSSN"),
 ];
 
 const FIRST_LISTING: &str = "\
@@ -38,18 +69,30 @@ across bcdbcdbd
 down bbbbbbbb
 ";
 
+const QUICK_LISTING: &str = "\
+map 2 2 1
+repaired 0
+path 1 1 W
+cell 1 1 1 0
+cell 1 2 1 2
+cell 2 1 2 1
+cell 2 2 2 2
+across bbbbbbbb
+down dbccbbbb
+";
+
 impl Example {
     fn file(&self) -> Vec<u8> {
         let [faults, dead] = [self.2, self.3].map(|list| list.iter().map(|&(x, y)| [x, y]).collect::<Vec<[usize; 2]>>());
         reference::map_file_of(reference::Array { rows: self.0, columns: self.1 }, &faults, &dead)
     }
 
-    fn holds(&self) -> bool {
+    fn holds(&self, planner: Planner) -> bool {
         let (mut grid, mut directions) = ([0; LENGTH], [9; LENGTH]);
         if reference::read_map(&self.file(), &mut grid).is_err() {
             return false;
         }
-        let outcome = reference::plan_repair(self.0, self.1, &grid, &mut directions, self.4);
+        let outcome = reference::plan(planner, self.0, self.1, &grid, &mut directions, self.4);
         let letters: String = directions.iter().filter(|d| **d != 0).map(|d| ['S', 'N', 'E', 'W'][*d as usize - 1]).collect();
         outcome == Ok(self.5) && letters == self.6
     }
@@ -57,7 +100,7 @@ impl Example {
 
 /// The across letters of the map that the sixth example plans.
 fn letters_hold() -> bool {
-    let listing = reference::listing(&EXAMPLES[5].file());
+    let listing = reference::listing(search_all, &EXAMPLES[5].file());
     listing.contains("\nacross dcaccdbd\n")
 }
 
@@ -75,9 +118,12 @@ fn refusals_hold() -> bool {
 
 /// What does not hold, if anything.
 pub fn failing() -> Option<String> {
-    let failed = EXAMPLES.iter().position(|e| !e.holds()).map(|i| format!("example {i}"));
+    let failed = EXAMPLES.iter().position(|e| !e.holds(search_all)).map(|i| format!("example {i}"));
+    let quick = QUICK_EXAMPLES.iter().position(|e| !e.holds(settle_and_search)).map(|i| format!("example {i} of the quick planner"));
     failed
-        .or((reference::listing(&[2, 2, 1, 1, 1]) != FIRST_LISTING).then(|| "the first listing".to_string()))
+        .or(quick)
+        .or((reference::listing(search_all, &[2, 2, 1, 1, 1]) != FIRST_LISTING).then(|| "the first listing".to_string()))
+        .or((reference::listing(settle_and_search, &[2, 2, 1, 1, 1]) != QUICK_LISTING).then(|| "the quick listing".to_string()))
         .or((!letters_hold()).then(|| "the across letters".to_string()))
         .or((!refusals_hold()).then(|| "the refusals".to_string()))
         .or((position((3, 2)) != 98).then(|| "positions".to_string()))

@@ -3,8 +3,10 @@
 use chantspruce::Fault;
 
 use crate::reference::{
-    self, Array, Cell, DEAD, DIRECTIONS, Direction, FAULTY, HEALTHY, LENGTH, NO_PROCESSOR, Outcome, Path, is_faulty, position,
+    self, Array, Cell, DEAD, DIRECTIONS, Direction, FAULTY, HEALTHY, LENGTH, NO_PROCESSOR, Outcome, Path, Planner, is_faulty, is_outermost,
+    position,
 };
+use std::collections::BTreeSet;
 
 /// The arguments of a call. An operation uses some of them; buffers that it does not use are empty.
 #[derive(Clone, Debug, Default)]
@@ -215,11 +217,107 @@ impl Maker {
             let row = 1 + self.below(4);
             case.grid[position((row, column))] = FAULTY;
         }
+        self.add_core(array, &mut case);
+        case
+    }
+
+    /// The same for the quick planner, which settles nothing there, or only a fault added in the last row. Almost every column
+    /// has a fault, in turns higher and lower, and the first row only one, so that the others can go south or north.
+    fn hard_closed(&mut self) -> Case {
+        let array = Array { rows: 12 + self.below(19), columns: 30 };
+        let mut case = self.healthy(array);
+        case.grid[position((1, 1))] = FAULTY;
+        for column in 2..30 {
+            let row = if column % 2 == 1 { 2 } else { 4 } + self.below(2);
+            case.grid[position((row, column))] = FAULTY;
+        }
+        self.add_core(array, &mut case);
+        self.close_outward(&mut case);
+        if self.one_in(2) {
+            case.grid[position((array.rows, 1 + self.below(30)))] = FAULTY;
+        }
+        case
+    }
+
+    /// Adds a fault without an open path, dead or not, near the last row, and the four around it.
+    fn add_core(&mut self, array: Array, case: &mut Case) {
         let (x, y) = (array.rows - 2, 2 + self.below(28));
         for fault in [(x - 1, y), (x + 1, y), (x, y - 1), (x, y + 1)] {
             case.grid[position(fault)] = FAULTY;
         }
         case.grid[position((x, y))] = self.pick(&[FAULTY, DEAD]);
+    }
+
+    /// A map with faults only in the two rows and columns next to the spares, dead ones among them.
+    fn near_rim(&mut self, array: Array) -> Case {
+        let mut case = self.healthy(array);
+        for _ in 0..self.below(2 * (array.rows + array.columns)) {
+            let (x, y) = self.rim(array);
+            let inwards = self.pick(&[(x, y), (x, y), (x + 1, y), (x - 1, y), (x, y + 1), (x, y - 1)]);
+            if array.is_inner(inwards) {
+                case.grid[position(inwards)] = FAULTY;
+            }
+        }
+        for _ in 0..self.pick(&[0, 0, 1, 4]) {
+            case.grid[position(self.spare(array))] = FAULTY;
+        }
+        if self.one_in(4) {
+            self.deaden(array, &mut case);
+        }
+        case
+    }
+
+    /// A map with faults only in one row or one column, mostly the first or the last, dead ones among them.
+    fn in_line(&mut self, array: Array) -> Case {
+        let mut case = self.healthy(array);
+        let (x, y) = if self.one_in(4) { self.inner(array) } else { self.rim(array) };
+        let (along_row, share, dead) = (self.one_in(2), 1 + self.below(4), self.pick(&[1, 2, LENGTH]));
+        for c in array.inner_cells().filter(|c| if along_row { c.0 == x } else { c.1 == y }) {
+            let faulty = if self.one_in(dead) { DEAD } else { FAULTY };
+            case.grid[position(c)] = if self.one_in(share) { faulty } else { HEALTHY };
+        }
+        for _ in 0..self.pick(&[0, 0, 1, 4]) {
+            case.grid[position(self.spare(array))] = FAULTY;
+        }
+        case
+    }
+
+    /// A map with faults that the quick planner does not settle: a planned one, which stays repairable, or any.
+    fn closed(&mut self, array: Array) -> Case {
+        let mut case = if self.one_in(4) { self.scattered(array) } else { self.planned(array) };
+        self.close_outward(&mut case);
+        case
+    }
+
+    /// Makes the spares faulty to which the outward paths of the outermost faults lead. In a planned map a fault whose own path
+    /// goes outward keeps its spare, so that it can be settled, or is made healthy, and the next ones count as outermost.
+    fn close_outward(&mut self, case: &mut Case) {
+        let array = Array { rows: case.n, columns: case.m };
+        let mut left: BTreeSet<Cell> = array.inner_cells().filter(|&c| is_faulty(case.grid[position(c)])).collect();
+        let keeps = self.one_in(2);
+        while let Some(fault) = close_lines(array, case, &left) {
+            left.remove(&fault);
+            if !keeps {
+                case.grid[position(fault)] = HEALTHY;
+                case.directions[position(fault)] = 0;
+            }
+        }
+    }
+
+    /// A map that mostly takes the quick planner more trials than the first one. Both try east before west for the
+    /// second fault. For the first planner east meets the first fault's path south. The quick one settles the first fault
+    /// north and keeps east; only at the last fault, which must go north, does it find that there is no plan with east.
+    fn misled(&mut self) -> Case {
+        let array = Array { rows: 5 + self.below(26), columns: 9 + self.below(22) };
+        let mut case = self.healthy(array);
+        let row = 2 + self.below(array.rows - 3);
+        let second = 4 + self.below(array.columns - 6);
+        let first = second + 1 + self.below(array.columns - 2 - second);
+        let last = first + 2 + self.below(array.columns - 1 - first);
+        let faults = [(1, first), (row, second), (row + 1, second), (row + 2, last)];
+        let spares = [(0, second), (row + 1, 0), (row + 2, array.columns + 1), (array.rows + 1, last)];
+        let between = (1..second).map(|y| (row + 1, y)).filter(|_| self.one_in(2)).collect::<Vec<Cell>>();
+        faults.into_iter().chain(spares).chain(between).for_each(|c| case.grid[position(c)] = FAULTY);
         case
     }
 
@@ -539,12 +637,12 @@ impl Maker {
         }
     }
 
-    /// A limit for a map: small for most small arrays, else about the trials that the map takes, or far above them.
-    fn limit(&mut self, case: &Case) -> u32 {
+    /// A limit for a map: small for most small arrays, else about the trials that the planner takes, or far above them.
+    fn limit(&mut self, planner: Planner, case: &Case) -> u32 {
         if case.n * case.m < 100 && !self.one_in(4) {
             return self.pick(&[0, 1, 2, 3, 4, 5, 6, 8, 12, 20, 50, 100, 500]);
         }
-        match trials(case) {
+        match trials(planner, case) {
             Some(t) => self.pick(&[t, t.saturating_sub(1), t + 1, u32::MAX]),
             None => ENOUGH,
         }
@@ -557,7 +655,29 @@ impl Maker {
             1..=63 => self.planned(array),
             _ => self.scattered(array),
         };
-        case.limit = self.limit(&case);
+        case.limit = self.limit(reference::search_all, &case);
+        case.directions = self.noise(LENGTH).to_vec();
+        case
+    }
+
+    /// A map for the quick planner. In small arrays it settles most faults, so that maps where it should not are larger.
+    fn for_settling(&mut self, rare: usize, small: usize) -> Case {
+        let array = self.array(rare, small);
+        match self.below(16) {
+            0..=3 => self.near_rim(array),
+            4 | 5 => self.in_line(array),
+            6..=9 => {
+                let larger = self.array(rare, 8);
+                self.closed(larger)
+            }
+            10 => self.planned(array),
+            _ => self.scattered(array),
+        }
+    }
+
+    fn for_quick_plan(&mut self, rare: usize, small: usize) -> Case {
+        let mut case = if self.one_in(512) { self.hard_closed() } else { self.for_settling(rare, small) };
+        case.limit = self.limit(reference::settle_and_search, &case);
         case.directions = self.noise(LENGTH).to_vec();
         case
     }
@@ -568,13 +688,40 @@ impl Maker {
         case
     }
 
-    pub fn for_run(&mut self) -> Case {
-        let mut case = self.for_plan(8192, 2);
+    pub fn for_quick_planner(&mut self) -> Case {
+        let mut case = self.for_quick_plan(512, 4);
+        self.spoil(&mut case, 4, &MAP_DAMAGES);
+        case
+    }
+
+    /// A map for both planners, with room for the plan of each. The limit may be what the first one takes: then the quick
+    /// one is spent exactly where it takes more.
+    pub fn for_both(&mut self) -> Case {
+        let mut case = if self.one_in(64) { self.misled() } else { self.for_settling(512, 4) };
+        let first = trials(reference::search_all, &case).unwrap_or(ENOUGH);
+        case.limit = self.pick(&[first, 4, 20, 100, ENOUGH]);
+        case.directions = self.noise(LENGTH).to_vec();
+        case.across = self.noise(LENGTH).to_vec();
+        case
+    }
+
+    /// Buffers for a whole run.
+    fn with_room(&mut self, mut case: Case) -> Case {
         case.places = self.noise_words();
         case.across = self.noise(LENGTH).to_vec();
         case.down = self.noise(LENGTH).to_vec();
         self.spoil(&mut case, 2, &MAP_DAMAGES);
         case
+    }
+
+    pub fn for_run(&mut self) -> Case {
+        let case = self.for_plan(8192, 2);
+        self.with_room(case)
+    }
+
+    pub fn for_quick_run(&mut self) -> Case {
+        let case = self.for_quick_plan(8192, 2);
+        self.with_room(case)
     }
 
     // Files.
@@ -810,19 +957,39 @@ impl Maker {
         }
         let array = self.array(512, 4);
         let case = if self.one_in(4) { self.planned(array) } else { self.scattered(array) };
-        if trials(&case).is_some() { case } else { self.healthy(array) }
+        if trials(reference::search_all, &case).is_some() { case } else { self.healthy(array) }
     }
 
-    pub fn for_report(&mut self) -> Case {
-        let case = self.for_listing();
+    /// The same for the quick planner.
+    fn for_quick_listing(&mut self) -> Case {
+        if self.one_in(10_000) {
+            return self.hard_closed();
+        }
+        let case = self.for_settling(512, 4);
+        let decided = trials(reference::settle_and_search, &case).is_some();
+        if decided { case } else { self.healthy(Array { rows: case.n, columns: case.m }) }
+    }
+
+    /// The file of a map, with room for its listing.
+    fn with_file(&mut self, planner: Planner, case: Case) -> Case {
         let mut case = self.map_file(case);
         let guess = 24 * (case.n * case.m + 4);
         case.out = match self.below(16) {
-            0 => self.room(reference::listing(&case.file).len()),
+            0 => self.room(reference::listing(planner, &case.file).len()),
             1 => self.room(guess / 2),
             _ => self.noise(guess + 64).to_vec(),
         };
         case
+    }
+
+    pub fn for_report(&mut self) -> Case {
+        let case = self.for_listing();
+        self.with_file(reference::search_all, case)
+    }
+
+    pub fn for_quick_report(&mut self) -> Case {
+        let case = self.for_quick_listing();
+        self.with_file(reference::settle_and_search, case)
     }
 }
 
@@ -831,9 +998,27 @@ fn inner_faults(case: &Case) -> Vec<usize> {
     array.inner_cells().map(position).filter(|&p| is_faulty(case.grid[p])).collect()
 }
 
+/// Makes the spares faulty to which open outward paths of the outermost of these faults lead, except where a fault's own path,
+/// of a plan, goes there. Gives a fault of this kind, if there is one.
+fn close_lines(array: Array, case: &mut Case, left: &BTreeSet<Cell>) -> Option<Cell> {
+    let mut outward = None;
+    for &fault in left {
+        for side in DIRECTIONS.into_iter().filter(|&side| is_outermost(fault, side, left)) {
+            let path = Path::new(array, fault, side);
+            let own = case.directions.get(position(fault)) == Some(&(side as u8));
+            if own {
+                outward = Some(fault);
+            } else if path.is_open(&case.grid) {
+                path.cells.last().into_iter().for_each(|&spare| case.grid[position(spare)] = FAULTY);
+            }
+        }
+    }
+    outward
+}
+
 /// The trials that a map takes, where they are not many.
-fn trials(case: &Case) -> Option<u32> {
-    match reference::plan_repair(case.n, case.m, &case.grid, &mut [0; LENGTH], ENOUGH) {
+fn trials(planner: Planner, case: &Case) -> Option<u32> {
+    match reference::plan(planner, case.n, case.m, &case.grid, &mut [0; LENGTH], ENOUGH) {
         Ok(Outcome::Repaired(t) | Outcome::Beyond(t)) => Some(t),
         _ => None,
     }

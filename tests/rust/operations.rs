@@ -2,7 +2,7 @@
 
 use crate::Buffers;
 use crate::inputs::{Case, ENOUGH, Maker};
-use crate::reference;
+use crate::reference::{self, Array, Planner, search_all, settle_and_search};
 use chantspruce::{Reason, flat};
 
 /// An answer as plain numbers: the number of the refusal (0 for an accepted call), its two places, and the values.
@@ -40,6 +40,21 @@ pub const REFUSED_MAP: u32 = 104;
 const SECOND_COUNT_0: u32 = 105;
 const IN_BOTH_LISTS: u32 = 106;
 
+/// Kinds of answers of both planners together; either may be spent alone. The last two should not come.
+const BOTH_REPAIRED: u32 = 107;
+const BOTH_BEYOND: u32 = 108;
+const BOTH_SPENT: u32 = 109;
+const FIRST_SPENT: u32 = 110;
+const QUICK_SPENT: u32 = 111;
+const VERDICTS_DIFFER: u32 = 112;
+const NO_PLAN: u32 = 113;
+
+/// Added to the kind of an outcome of the quick planner where there is an inner fault: it settles none of them, some or all.
+/// Each is a multiple of the first, which is above all kinds that have no addition.
+const NONE_SETTLED: u32 = 200;
+const SOME_SETTLED: u32 = 400;
+const ALL_SETTLED: u32 = 600;
+
 /// Added to the kind of an accepted answer, repaired and spent among them, of a map with a dead processor; to that of a refusal and of beyond
 /// repair where with ordinary faults in place of the dead processors, and at most `ENOUGH` trials, the answer is of another kind; and to that
 /// of a refusal in the second list of a map file.
@@ -54,7 +69,17 @@ pub fn kind_name(kind: u32) -> String {
         REFUSED_MAP => "map refused".to_string(),
         SECOND_COUNT_0 => "second count 0".to_string(),
         IN_BOTH_LISTS => "in both lists".to_string(),
+        BOTH_REPAIRED => "both repaired".to_string(),
+        BOTH_BEYOND => "both beyond repair".to_string(),
+        BOTH_SPENT => "both spent".to_string(),
+        FIRST_SPENT => "only the first spent".to_string(),
+        QUICK_SPENT => "only the quick one spent".to_string(),
+        VERDICTS_DIFFER => "verdicts that differ".to_string(),
+        NO_PLAN => "a plan that is none".to_string(),
         DEAD.. => format!("{}, dead", kind_name(kind - DEAD)),
+        ALL_SETTLED.. => format!("{}, all settled", kind_name(kind - ALL_SETTLED)),
+        SOME_SETTLED.. => format!("{}, some settled", kind_name(kind - SOME_SETTLED)),
+        NONE_SETTLED.. => format!("{}, none settled", kind_name(kind - NONE_SETTLED)),
         number => format!("refused {number}"),
     }
 }
@@ -81,6 +106,46 @@ fn by_listing(answer: &Answer, after: &Case) -> u32 {
         Some(b'r') => REPAIRED,
         Some(b'b') => BEYOND,
         _ => SPENT,
+    }
+}
+
+/// The kind of the quick planner's answer, with how much it settles.
+fn by_quick_outcome(answer: &Answer, after: &Case) -> u32 {
+    let kind = by_outcome(answer, after);
+    if answer.number == 0 { kind + extent(Array { rows: after.n, columns: after.m }, &after.grid) } else { kind }
+}
+
+/// The same of a listing.
+fn by_quick_listing(answer: &Answer, after: &Case) -> u32 {
+    let mut grid = [0; reference::LENGTH];
+    match (by_listing(answer, after), reference::read_map(&after.file, &mut grid)) {
+        (kind @ (REPAIRED | BEYOND | SPENT), Ok(head)) => kind + extent(Array { rows: head.rows, columns: head.columns }, &grid),
+        (kind, _) => kind,
+    }
+}
+
+/// How much of a map the quick planner settles.
+fn extent(array: Array, grid: &[u8]) -> u32 {
+    let (settled, unsettled) = reference::settle(array, grid);
+    match (settled.len(), unsettled.len()) {
+        (0, 0) => 0,
+        (0, _) => NONE_SETTLED,
+        (_, 0) => ALL_SETTLED,
+        _ => SOME_SETTLED,
+    }
+}
+
+/// The kind of both planners' answer: its values are the outcome of each, and whether the quick one's directions pass the
+/// plan check.
+fn by_verdicts(answer: &Answer, _: &Case) -> u32 {
+    match answer.values {
+        [_, 1, 0] => NO_PLAN,
+        [1, 1, _] => BOTH_REPAIRED,
+        [2, 2, _] => BOTH_BEYOND,
+        [3, 3, _] => BOTH_SPENT,
+        [3, _, _] => FIRST_SPENT,
+        [_, 3, _] => QUICK_SPENT,
+        _ => VERDICTS_DIFFER,
     }
 }
 
@@ -127,28 +192,34 @@ fn never(_: &Operation, _: u32, _: &Case) -> bool {
 /// Of an operation that reads a grid.
 fn in_grid(operation: &Operation, kind: u32, before: &Case) -> bool {
     let has_dead = before.grid.contains(&reference::DEAD);
-    if !has_dead || matches!(kind, 0 | REPAIRED | SPENT) {
+    if !has_dead || matches!(verdict_of(kind), 0 | REPAIRED | SPENT) {
         return has_dead;
     }
     let mut ordinary = before.clone();
     make_ordinary(&mut ordinary.grid);
     ordinary.limit = ordinary.limit.min(ENOUGH);
     let answer = (operation.reference)(&mut ordinary);
-    (operation.kind)(&answer, &ordinary) != kind
+    verdict_of((operation.kind)(&answer, &ordinary)) != verdict_of(kind)
 }
 
-/// Of the listing.
-fn in_file(_: &Operation, kind: u32, before: &Case) -> bool {
+/// A kind without what is added for the quick planner.
+fn verdict_of(kind: u32) -> u32 {
+    kind % NONE_SETTLED
+}
+
+/// Of a listing by this planner.
+fn in_file(planner: Planner, kind: u32, before: &Case) -> bool {
     let mut grid = [0; reference::LENGTH];
     let Ok(head) = reference::read_map(&before.file, &mut grid) else {
         return false;
     };
-    if !grid.contains(&reference::DEAD) || !matches!(kind, REPAIRED | SPENT | BEYOND) {
+    let verdict = verdict_of(kind);
+    if !grid.contains(&reference::DEAD) || !matches!(verdict, REPAIRED | SPENT | BEYOND) {
         return false;
     }
     make_ordinary(&mut grid);
-    let ordinary = reference::plan_repair(head.rows, head.columns, &grid, &mut [0; reference::LENGTH], ENOUGH);
-    kind != BEYOND || !matches!(ordinary, Ok(reference::Outcome::Beyond(_)))
+    let ordinary = reference::plan(planner, head.rows, head.columns, &grid, &mut [0; reference::LENGTH], ENOUGH);
+    verdict != BEYOND || !matches!(ordinary, Ok(reference::Outcome::Beyond(_)))
 }
 
 /// Makes ordinary faults of dead processors.
@@ -221,6 +292,12 @@ fn outcome_told(outcome: reference::Outcome, links: usize) -> [usize; 3] {
     }
 }
 
+fn run_told(planner: Planner, c: &mut Case) -> Answer {
+    let (directions, places, across, down) = (&mut c.directions, &mut c.places, &mut c.across, &mut c.down);
+    let result = reference::run(planner, c.n, c.m, &c.grid, c.limit, directions, places, across, down);
+    told(result, |(outcome, links)| outcome_told(outcome, links))
+}
+
 fn outcome_said(outcome: chantspruce::Outcome, links: usize) -> [usize; 3] {
     match outcome {
         chantspruce::Outcome::Repaired(trials) => [1, trials as usize, links],
@@ -265,20 +342,47 @@ fn written(a: flat::Written) -> Answer {
     Answer { number: a.number, place: a.place, second: a.second, values: [a.length, 0, 0] }
 }
 
-pub const OPERATIONS: [Operation; 13] = [
+/// The kinds of the quick planner and of a run with it. Where all inner faults are settled there is no trial.
+const QUICK_KINDS: [u32; 19] = [
+    REPAIRED,
+    REPAIRED + NONE_SETTLED,
+    REPAIRED + SOME_SETTLED,
+    REPAIRED + ALL_SETTLED,
+    BEYOND + NONE_SETTLED,
+    BEYOND + SOME_SETTLED,
+    SPENT + NONE_SETTLED,
+    SPENT + SOME_SETTLED,
+    1,
+    2,
+    3,
+    DEAD + REPAIRED + NONE_SETTLED,
+    DEAD + REPAIRED + SOME_SETTLED,
+    DEAD + REPAIRED + ALL_SETTLED,
+    DEAD + BEYOND + NONE_SETTLED,
+    DEAD + BEYOND + SOME_SETTLED,
+    DEAD + SPENT + NONE_SETTLED,
+    DEAD + SPENT + SOME_SETTLED,
+    DEAD + 3,
+];
+
+pub const OPERATIONS: [Operation; 17] = [
     CHECK_PLAN,
     CHECK_FAULT_LIST,
     PLAN_REPAIR,
+    PLAN_QUICKLY,
+    BOTH_PLANNERS,
     PLACE_CELLS,
     ROUTE_SWITCHES,
     FOLLOW_LINK,
     REPAIR_RUN,
+    RUN_QUICKLY,
     READ_NUMBER,
     READ_MAP,
     READ_PLAN,
     WRITE_MAP,
     WRITE_PLAN,
     REPORT,
+    REPORT_QUICKLY,
 ];
 
 const CHECK_PLAN: Operation = Operation {
@@ -314,12 +418,54 @@ const PLAN_REPAIR: Operation = Operation {
     name: "plan_repair",
     seed: 2,
     make: Maker::for_planner,
-    reference: |c| told(reference::plan_repair(c.n, c.m, &c.grid, &mut c.directions, c.limit), |o| outcome_told(o, 0)),
+    reference: |c| told(reference::plan(search_all, c.n, c.m, &c.grid, &mut c.directions, c.limit), |o| outcome_told(o, 0)),
     flat: |c, b| planned(flat::plan_repair(c.n, c.m, b.grid.lend(), b.directions.lend(), c.limit)),
     safe: |c, b| said(chantspruce::plan_repair(c.n, c.m, b.grid.lend(), b.directions.lend(), c.limit), |o| outcome_said(o, 0)),
     kind: by_outcome,
     dead: in_grid,
     kinds: &[REPAIRED, BEYOND, SPENT, 1, 2, 3, DEAD + REPAIRED, DEAD + BEYOND, DEAD + SPENT, DEAD + 3],
+    sized: true,
+};
+
+const PLAN_QUICKLY: Operation = Operation {
+    name: "plan_quickly",
+    seed: 14,
+    make: Maker::for_quick_planner,
+    reference: |c| told(reference::plan(settle_and_search, c.n, c.m, &c.grid, &mut c.directions, c.limit), |o| outcome_told(o, 0)),
+    flat: |c, b| planned(flat::plan_quickly(c.n, c.m, b.grid.lend(), b.directions.lend(), c.limit)),
+    safe: |c, b| said(chantspruce::plan_quickly(c.n, c.m, b.grid.lend(), b.directions.lend(), c.limit), |o| outcome_said(o, 0)),
+    kind: by_quick_outcome,
+    dead: in_grid,
+    kinds: &QUICK_KINDS,
+    sized: true,
+};
+
+/// Both planners on the same map and under the same limit: where neither is spent both call it beyond repair, or neither does.
+const BOTH_PLANNERS: Operation = Operation {
+    name: "plan_repair beside plan_quickly",
+    seed: 15,
+    make: Maker::for_both,
+    reference: |c| {
+        let first = reference::plan(search_all, c.n, c.m, &c.grid, &mut c.across, c.limit);
+        let quick = reference::plan(settle_and_search, c.n, c.m, &c.grid, &mut c.directions, c.limit);
+        let checked = reference::check_plan(c.n, c.m, &c.grid, &c.directions);
+        told(first.and_then(|a| Ok((a, quick?))), |(a, b)| [outcome_told(a, 0)[0], outcome_told(b, 0)[0], usize::from(checked.is_ok())])
+    },
+    flat: |c, b| {
+        let first = planned(flat::plan_repair(c.n, c.m, b.grid.lend(), b.across.lend(), c.limit));
+        let quick = planned(flat::plan_quickly(c.n, c.m, b.grid.lend(), b.directions.lend(), c.limit));
+        let checked = flat::check_plan(c.n, c.m, b.grid.lend(), b.directions.lend());
+        Answer { values: [first.values[0], quick.values[0], usize::from(checked.number == 0)], ..first }
+    },
+    safe: |c, b| {
+        let first = chantspruce::plan_repair(c.n, c.m, b.grid.lend(), b.across.lend(), c.limit);
+        let quick = chantspruce::plan_quickly(c.n, c.m, b.grid.lend(), b.directions.lend(), c.limit);
+        let checked = chantspruce::check_plan(c.n, c.m, b.grid.lend(), b.directions.lend());
+        said(first.and_then(|a| Ok((a, quick?))), |(a, b)| [outcome_said(a, 0)[0], outcome_said(b, 0)[0], usize::from(checked.is_ok())])
+    },
+    kind: by_verdicts,
+    dead: never,
+    kinds: &[BOTH_REPAIRED, BOTH_BEYOND, BOTH_SPENT, FIRST_SPENT, QUICK_SPENT],
     sized: true,
 };
 
@@ -378,11 +524,7 @@ const REPAIR_RUN: Operation = Operation {
     name: "repair_run",
     seed: 6,
     make: Maker::for_run,
-    reference: |c| {
-        let (directions, places, across, down) = (&mut c.directions, &mut c.places, &mut c.across, &mut c.down);
-        let result = reference::repair_run(c.n, c.m, &c.grid, c.limit, directions, places, across, down);
-        told(result, |(outcome, links)| outcome_told(outcome, links))
-    },
+    reference: |c| run_told(search_all, c),
     flat: |c, b| {
         let (directions, places, across, down) = (b.directions.lend(), b.places.lend(), b.across.lend(), b.down.lend());
         planned(flat::repair_run(c.n, c.m, b.grid.lend(), c.limit, directions, places, across, down))
@@ -395,6 +537,26 @@ const REPAIR_RUN: Operation = Operation {
     kind: by_outcome,
     dead: in_grid,
     kinds: &[REPAIRED, BEYOND, SPENT, 1, 2, 3, DEAD + REPAIRED, DEAD + BEYOND, DEAD + SPENT, DEAD + 3],
+    sized: true,
+};
+
+const RUN_QUICKLY: Operation = Operation {
+    name: "run_quickly",
+    seed: 16,
+    make: Maker::for_quick_run,
+    reference: |c| run_told(settle_and_search, c),
+    flat: |c, b| {
+        let (directions, places, across, down) = (b.directions.lend(), b.places.lend(), b.across.lend(), b.down.lend());
+        planned(flat::run_quickly(c.n, c.m, b.grid.lend(), c.limit, directions, places, across, down))
+    },
+    safe: |c, b| {
+        let (directions, places, across, down) = (b.directions.lend(), b.places.lend(), b.across.lend(), b.down.lend());
+        let result = chantspruce::run_quickly(c.n, c.m, b.grid.lend(), c.limit, directions, places, across, down);
+        said(result, |run| outcome_said(run.outcome, run.links))
+    },
+    kind: by_quick_outcome,
+    dead: in_grid,
+    kinds: &QUICK_KINDS,
     sized: true,
 };
 
@@ -493,11 +655,42 @@ const REPORT: Operation = Operation {
     name: "report",
     seed: 12,
     make: Maker::for_report,
-    reference: |c| told(reference::report(&c.file, &mut c.out), |length| [length, 0, 0]),
+    reference: |c| told(reference::report(search_all, &c.file, &mut c.out), |length| [length, 0, 0]),
     flat: |_, b| written(flat::report(b.file.lend(), b.out.lend())),
     safe: |_, b| said(chantspruce::report(b.file.lend(), b.out.lend()), |length| [length, 0, 0]),
     kind: by_listing,
-    dead: in_file,
+    dead: |_, kind, before| in_file(search_all, kind, before),
     kinds: &[REPAIRED, BEYOND, SPENT, REFUSED_MAP, 14, DEAD + REPAIRED, DEAD + BEYOND, DEAD + SPENT],
+    sized: true,
+};
+
+const REPORT_QUICKLY: Operation = Operation {
+    name: "report_quickly",
+    seed: 17,
+    make: Maker::for_quick_report,
+    reference: |c| told(reference::report(settle_and_search, &c.file, &mut c.out), |length| [length, 0, 0]),
+    flat: |_, b| written(flat::report_quickly(b.file.lend(), b.out.lend())),
+    safe: |_, b| said(chantspruce::report_quickly(b.file.lend(), b.out.lend()), |length| [length, 0, 0]),
+    kind: by_quick_listing,
+    dead: |_, kind, before| in_file(settle_and_search, kind, before),
+    kinds: &[
+        REPAIRED,
+        REPAIRED + NONE_SETTLED,
+        REPAIRED + SOME_SETTLED,
+        REPAIRED + ALL_SETTLED,
+        BEYOND + NONE_SETTLED,
+        BEYOND + SOME_SETTLED,
+        SPENT + NONE_SETTLED,
+        SPENT + SOME_SETTLED,
+        REFUSED_MAP,
+        14,
+        DEAD + REPAIRED + NONE_SETTLED,
+        DEAD + REPAIRED + SOME_SETTLED,
+        DEAD + REPAIRED + ALL_SETTLED,
+        DEAD + BEYOND + NONE_SETTLED,
+        DEAD + BEYOND + SOME_SETTLED,
+        DEAD + SPENT + NONE_SETTLED,
+        DEAD + SPENT + SOME_SETTLED,
+    ],
     sized: true,
 };

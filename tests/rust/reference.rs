@@ -1,6 +1,8 @@
 //! The operations once more, as plainly as documents 01 and 02 and docs/DECISIONS.md put them, for the comparison with the library.
 //! Nothing here is taken from the library: paths are lists of cells, and links run over a map of ports.
 
+use std::collections::BTreeSet;
+
 /// The length of each buffer that is indexed by position.
 pub const LENGTH: usize = 1024;
 
@@ -286,13 +288,16 @@ pub fn check_fault_list(n: usize, m: usize, grid: &[u8], list: &[(usize, u8)]) -
     test_paths(grid, &faults.iter().zip(list).map(path).collect::<Vec<Path>>())
 }
 
-// The planner.
+// The planners.
 
 struct Search<'a> {
     array: Array,
     grid: &'a [u8],
     faults: Vec<Cell>,
+    /// The settled paths, then those of the faults.
     kept: Vec<Path>,
+    /// How many paths are settled.
+    settled: usize,
     /// The cells of the kept paths.
     taken: [bool; LENGTH],
     trials: u32,
@@ -308,7 +313,7 @@ enum End {
 impl Search<'_> {
     /// Tries the directions of the next fault, each with all that can follow it.
     fn extend(&mut self) -> End {
-        let Some(&fault) = self.faults.get(self.kept.len()) else {
+        let Some(&fault) = self.faults.get(self.kept.len() - self.settled) else {
             return End::Full;
         };
         for direction in DIRECTIONS {
@@ -346,15 +351,64 @@ impl Search<'_> {
     }
 }
 
-/// The outcome, with the paths found.
-fn search(array: Array, grid: &[u8], limit: u32) -> (Outcome, Vec<Path>) {
-    let faults = inner_faults(array, grid);
-    let mut search = Search { array, grid, faults, kept: Vec::new(), taken: [false; LENGTH], trials: 0, limit };
+/// The outcome, and the paths of the plan in row order.
+type Found = (Outcome, Vec<Path>);
+
+/// A planner, on a map that passes its tests, under a limit.
+pub type Planner = fn(Array, &[u8], u32) -> Found;
+
+/// The trials over these faults, with the settled paths kept from the start.
+fn search(array: Array, grid: &[u8], settled: Vec<Path>, faults: Vec<Cell>, limit: u32) -> Found {
+    let mut search = Search { array, grid, faults, kept: Vec::new(), settled: settled.len(), taken: [false; LENGTH], trials: 0, limit };
+    settled.into_iter().for_each(|path| search.keep(path));
     match search.extend() {
-        End::Full => (Outcome::Repaired(search.trials), search.kept),
+        End::Full => {
+            search.kept.sort_by_key(|path| path.start);
+            (Outcome::Repaired(search.trials), search.kept)
+        }
         End::Exhausted => (Outcome::Beyond(search.trials), Vec::new()),
         End::Spent => (Outcome::Spent(limit), Vec::new()),
     }
+}
+
+/// The planner that searches over all faults.
+pub fn search_all(array: Array, grid: &[u8], limit: u32) -> Found {
+    search(array, grid, Vec::new(), inner_faults(array, grid), limit)
+}
+
+/// The quick planner.
+pub fn settle_and_search(array: Array, grid: &[u8], limit: u32) -> Found {
+    let (settled, unsettled) = settle(array, grid);
+    search(array, grid, settled, unsettled, limit)
+}
+
+/// The paths of the faults that the quick planner settles, and its other faults in row order.
+pub fn settle(array: Array, grid: &[u8]) -> (Vec<Path>, Vec<Cell>) {
+    // by row and then by column, which is row order
+    let mut unsettled: BTreeSet<Cell> = inner_faults(array, grid).into_iter().collect();
+    let mut settled = Vec::new();
+    while let Some(path) = next_settled(array, grid, &unsettled) {
+        unsettled.remove(&path.start);
+        settled.push(path);
+    }
+    (settled, unsettled.into_iter().collect())
+}
+
+fn next_settled(array: Array, grid: &[u8], unsettled: &BTreeSet<Cell>) -> Option<Path> {
+    [West, East, North, South].into_iter().find_map(|side| {
+        let outermost = unsettled.iter().filter(|&&fault| is_outermost(fault, side, unsettled));
+        outermost.map(|&fault| Path::new(array, fault, side)).find(|path| path.is_open(grid))
+    })
+}
+
+/// Whether no unsettled fault has a smaller column (west), a larger one (east), a smaller row (north), a larger one (south).
+pub fn is_outermost((x, y): Cell, side: Direction, unsettled: &BTreeSet<Cell>) -> bool {
+    !unsettled.iter().any(|other| match side {
+        West => other.1 < y,
+        East => other.1 > y,
+        North => other.0 < x,
+        South => other.0 > x,
+    })
 }
 
 fn write_directions(paths: &[Path], directions: &mut [u8]) {
@@ -364,9 +418,10 @@ fn write_directions(paths: &[Path], directions: &mut [u8]) {
     }
 }
 
-pub fn plan_repair(n: usize, m: usize, grid: &[u8], directions: &mut [u8], limit: u32) -> Result<Outcome, Refusal> {
+/// Plans with either planner.
+pub fn plan(planner: Planner, n: usize, m: usize, grid: &[u8], directions: &mut [u8], limit: u32) -> Result<Outcome, Refusal> {
     let array = test_map(n, m, grid, &[directions.len()])?;
-    let (outcome, paths) = search(array, grid, limit);
+    let (outcome, paths) = planner(array, grid, limit);
     write_directions(&paths, directions);
     Ok(outcome)
 }
@@ -587,8 +642,10 @@ pub fn follow_link(
 /// Outcome and links found to reach their neighbour.
 pub type Ran = (Outcome, usize);
 
+/// A run with either planner.
 #[allow(clippy::too_many_arguments)]
-pub fn repair_run(
+pub fn run(
+    planner: Planner,
     n: usize,
     m: usize,
     grid: &[u8],
@@ -599,7 +656,7 @@ pub fn repair_run(
     down: &mut [u8],
 ) -> Result<Ran, Refusal> {
     let array = test_map(n, m, grid, &[directions.len(), places.len(), across.len(), down.len()])?;
-    let (outcome, paths) = search(array, grid, limit);
+    let (outcome, paths) = planner(array, grid, limit);
     write_directions(&paths, directions);
     let Outcome::Repaired(_) = outcome else {
         return Ok((outcome, 0));
@@ -819,19 +876,19 @@ pub fn write_plan(n: usize, m: usize, directions: &[u8], out: &mut [u8]) -> Resu
 
 // The listing.
 
-/// The listing of a map file.
-pub fn listing(file: &[u8]) -> String {
+/// The listing of a map file, by either planner.
+pub fn listing(planner: Planner, file: &[u8]) -> String {
     let mut grid = [0; LENGTH];
     match read_map(file, &mut grid) {
         Err(e) => format!("refused {} {}\n", e.number, e.place),
-        Ok(head) => list_map(head, &grid),
+        Ok(head) => list_map(planner, head, &grid),
     }
 }
 
-fn list_map(head: Head, grid: &[u8]) -> String {
+fn list_map(planner: Planner, head: Head, grid: &[u8]) -> String {
     let array = Array { rows: head.rows, columns: head.columns };
     let first = format!("map {} {} {}\n", head.rows, head.columns, head.count);
-    let (outcome, paths) = search(array, grid, LISTING_LIMIT);
+    let (outcome, paths) = planner(array, grid, LISTING_LIMIT);
     match outcome {
         Outcome::Beyond(trials) => format!("{first}beyond {trials}\n"),
         Outcome::Spent(limit) => format!("{first}spent {limit}\n"),
@@ -857,6 +914,6 @@ fn list_plan(plan: &Planned) -> String {
     text + &format!("across {}\ndown {}\n", letters(&across), letters(&down))
 }
 
-pub fn report(file: &[u8], out: &mut [u8]) -> Result<usize, Refusal> {
-    put(listing(file).as_bytes(), out)
+pub fn report(planner: Planner, file: &[u8], out: &mut [u8]) -> Result<usize, Refusal> {
+    put(listing(planner, file).as_bytes(), out)
 }

@@ -24,12 +24,12 @@ function ranked(values, name, count, k,    i, j, low, sorted) {
 }
 
 END {
-    printf "%-46s %10s %10s %7s   %s\n", "median of nine layouts, microseconds a call", "library", "Rust", "ratio", "lowest, highest"
+    printf "%-50s %10s %10s %7s   %s\n", "median of nine layouts, microseconds a call", "library", "Rust", "ratio", "lowest, highest"
     for (i = 1; i <= lines; i++) {
         name = names[i]
         n = count[name]
         half = int((n + 1) / 2)
-        printf "%-46s %10.2f", name, ranked(library, name, n, half)
+        printf "%-50s %10.2f", name, ranked(library, name, n, half)
         if (name in compared)
             printf " %10.2f %7.2f   %.2f, %.2f", ranked(rust, name, n, half), ranked(ratio, name, n, half), ranked(ratio, name, n, 1), ranked(ratio, name, n, n)
         printf "\n"

@@ -293,23 +293,93 @@ fn search(n: usize, m: usize, grid: &[u8], starts: &[u16], chosen: &mut [u8], li
     Trials { n, m, grid, starts, rows, columns, table, notes, chosen }.search(limit)
 }
 
+fn write_found(found: Outcome, starts: &[u16], chosen: &[u8], directions: &mut [u8]) {
+    directions.fill(0);
+    if let Outcome::Repaired(_) = found {
+        for (&p, &d) in starts.iter().zip(chosen) {
+            directions[p as usize] = d;
+        }
+    }
+}
+
 fn find_plan(n: usize, m: usize, grid: &[u8], directions: &mut [u8], limit: u32) -> Outcome {
     let mut starts = [0u16; LONG];
     let mut chosen = [0u8; LONG];
     let count = list_faults(n, m, grid, &mut starts);
     let found = search(n, m, grid, &starts[..count], &mut chosen, limit);
-    directions.fill(0);
-    if let Outcome::Repaired(_) = found {
-        for k in 0..count {
-            directions[starts[k] as usize] = chosen[k];
-        }
-    }
+    write_found(found, &starts[..count], &chosen[..count], directions);
     found
 }
 
 pub fn plan_repair(n: usize, m: usize, grid: &[u8], directions: &mut [u8], limit: u32) -> Result<Outcome, Refusal> {
     check_map(n, m, grid.len() == LONG && directions.len() == LONG, grid)?;
     Ok(find_plan(n, m, grid, directions, limit))
+}
+
+// The quick planner.
+
+/// How far in a position lies on a side.
+fn depth(p: usize, d: u8) -> usize {
+    match d {
+        1 => 31 - p / 32,
+        2 => p / 32,
+        3 => 31 - p % 32,
+        _ => p % 32,
+    }
+}
+
+fn find_least(left: &[u16], d: u8) -> usize {
+    left.iter().fold(31, |least, &p| least.min(depth(p as usize, d)))
+}
+
+/// Where in the list the first fault is that lies outermost on a side and has an open path there.
+fn find_outward(n: usize, m: usize, grid: &[u8], left: &[u16], d: u8) -> Option<usize> {
+    let least = find_least(left, d);
+    left.iter().position(|&p| depth(p as usize, d) == least && is_open(n, m, grid, p as usize, d))
+}
+
+/// Settles one fault after the other: `held` gets their positions, `ways` their directions, `left` keeps the others. How many
+/// are settled.
+fn peel(n: usize, m: usize, grid: &[u8], left: &mut [u16], held: &mut [u16], ways: &mut [u8]) -> usize {
+    let count = left.len();
+    let mut settled = 0;
+    let mut d = 4;
+    while 0 < d {
+        let rest = count - settled;
+        if let Some(at) = find_outward(n, m, grid, &left[..rest], d) {
+            held[settled] = left[at];
+            ways[settled] = d;
+            for k in at..rest - 1 {
+                left[k] = left[k + 1];
+            }
+            settled += 1;
+            d = 4;
+        } else {
+            d -= 1;
+        }
+    }
+    settled
+}
+
+fn find_quickly(n: usize, m: usize, grid: &[u8], directions: &mut [u8], limit: u32) -> Outcome {
+    let (mut left, mut held) = ([0u16; LONG], [0u16; LONG]);
+    let (mut ways, mut chosen) = ([0u8; LONG], [0u8; LONG]);
+    let count = list_faults(n, m, grid, &mut left);
+    let settled = peel(n, m, grid, &mut left[..count], &mut held, &mut ways);
+    let rest = count - settled;
+    let found = search(n, m, grid, &left[..rest], &mut chosen, limit);
+    write_found(found, &left[..rest], &chosen[..rest], directions);
+    if let Outcome::Repaired(_) = found {
+        for k in 0..settled {
+            directions[held[k] as usize] = ways[k];
+        }
+    }
+    found
+}
+
+pub fn plan_quickly(n: usize, m: usize, grid: &[u8], directions: &mut [u8], limit: u32) -> Result<Outcome, Refusal> {
+    check_map(n, m, grid.len() == LONG && directions.len() == LONG, grid)?;
+    Ok(find_quickly(n, m, grid, directions, limit))
 }
 
 // Placement and routing.

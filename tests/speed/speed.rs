@@ -135,14 +135,58 @@ fn compare_few(faults: usize) {
     );
 }
 
-fn compare_reading() {
+/// A 30 x 30 map whose inner faults are at these rows and columns.
+fn with_faults_at(is_fault: fn(usize, usize) -> bool) -> Vec<u8> {
     let mut grid = healthy();
-    for p in 0..LONG {
-        if (1..=30).contains(&(p / 32)) && (1..=30).contains(&(p % 32)) {
-            grid[p] = 1;
-        }
+    for (x, y) in (1..=30).flat_map(|x| (1..=30).map(move |y| (x, y))) {
+        grid[32 * x + y] = u8::from(is_fault(x, y));
     }
-    let file = map_file(&grid);
+    grid
+}
+
+/// Both planners on the same map, each with what it finds.
+fn compare_planners(name: &str, grid: &[u8]) {
+    let limit = 1_000_000;
+    let (mut a, mut b) = (vec![0; LONG], vec![0; LONG]);
+    let found = same::plan_repair(30, 30, grid, &mut b, limit).expect("a map of the right form");
+    compare(
+        &format!("plan_repair, {name}: {found:?}"),
+        if matches!(found, Outcome::Spent(_)) { 1 } else { 50 },
+        &mut || {
+            black_box(chantspruce::plan_repair(30, 30, black_box(grid), &mut a, limit)).ok();
+        },
+        &mut || {
+            black_box(same::plan_repair(30, 30, black_box(grid), &mut b, limit)).ok();
+        },
+    );
+    assert!(a == b, "two plans for the same map");
+    let found = same::plan_quickly(30, 30, grid, &mut b, limit).expect("a map of the right form");
+    compare(
+        &format!("plan_quickly, {name}: {found:?}"),
+        50,
+        &mut || {
+            black_box(chantspruce::plan_quickly(30, 30, black_box(grid), &mut a, limit)).ok();
+        },
+        &mut || {
+            black_box(same::plan_quickly(30, 30, black_box(grid), &mut b, limit)).ok();
+        },
+    );
+    assert!(a == b, "two quick plans for the same map");
+}
+
+fn compare_quickly() {
+    let random = find_map(40, 1_000_000, |o| matches!(o, Outcome::Repaired(_)));
+    compare_planners("40 faults", &random);
+    let rim = |x, y| x == 1 || x == 30 || y == 1 || y == 30;
+    compare_planners("116 faults at the rim", &with_faults_at(rim));
+    compare_planners("900 faults", &with_faults_at(|_, _| true));
+    let mut spent = vec![0; LONG];
+    same::read_map(&std::fs::read("examples/spent.map").expect("an example"), &mut spent).expect("a map");
+    compare_planners("examples/spent.map", &spent);
+}
+
+fn compare_reading() {
+    let file = map_file(&with_faults_at(|_, _| true));
     let (mut a, mut b) = (vec![0; LONG], vec![0; LONG]);
     compare(
         "read_map, 30 x 30, 900 faults",
@@ -275,6 +319,7 @@ fn main() {
     for faults in [20, 34, 40, 60] {
         compare_trials(faults);
     }
+    compare_quickly();
     compare_reading();
     compare_plan(20);
     compare_plan(50);
