@@ -198,7 +198,7 @@ pub fn search_within(
 }
 
 // Inner part: writes 0 in the whole direction buffer.
-fn wipe(directions: &mut [u8])
+pub fn wipe(directions: &mut [u8])
     requires { ⌜ length (now directions) ≡ 1024 ⌝ }
     ensures { λ _. ⌜ now (directions .exit) ≡ zeros ⌝ }
 {
@@ -208,7 +208,7 @@ fn wipe(directions: &mut [u8])
 }
 
 // Inner part: writes the direction of each fault at its start, and 0 elsewhere.
-fn write_plan(starts: &[u16], chosen: &[u8], directions: &mut [u8])
+pub fn write_plan(starts: &[u16], chosen: &[u8], directions: &mut [u8])
     requires { ⌜ (length (now directions) ≡ 1024) × (length (now starts) ≤ length (now chosen))
         × ((i : ℕ) → i < length (now starts) → getD (now starts) i 0 < 1024) ⌝ }
     ensures { λ _. ⌜ now (directions .exit) ≡ buffer (direction-of (paired (now (starts .entry)) (now (chosen .entry)))) ⌝ }

@@ -1,0 +1,12 @@
+pub mod Masks
+pub mod Cover
+pub mod Crossings
+pub mod Spares
+pub mod Options
+pub mod Striking
+pub mod Nexting
+pub mod Spreading
+pub mod Offering
+pub mod Pairs
+pub mod Exactly
+pub mod Theorems

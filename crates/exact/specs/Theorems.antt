@@ -1,0 +1,53 @@
+-- What is proved of the exact planner's rule: the statements (docs/EXACT.md). All but the last two are over any tests of a
+-- path and of two paths, and over what is used of the geometry.
+-- Assumes nothing.
+use Prim.Native.Nat.{ℕ, _+_, _*_, _≤_, _<_}
+use mathlib.Core.Path.{_≡_}
+use mathlib.Core.Bool.{Bool, true}
+use mathlib.Core.List.{List}
+use lib.ListN.{length}
+use Rattle.array.specs.Place.{row, column, inner}
+use Rattle.paths.specs.Path.{clear}
+use Rattle.plans.specs.Plan.{Plan}
+use Rattle.exact.specs.Masks.{leaves, tried}
+use Rattle.exact.specs.Options.{Apart, Solution, Narrowed}
+use Rattle.exact.specs.Problem.{Crossing, Facing, Some-pair}
+use Rattle.exact.specs.Inner.{Closed}
+
+-- lemma 1: a pair that is tried leaves no fault three directions
+abbrev pub Two-options : Type 0
+Two-options =
+    (columns : Bool) (a b p d e f : ℕ) → tried columns a b ≡ true → 1 ≤ d → d < e → e < f → f ≤ 4
+    → leaves columns a b p d ≡ true → leaves columns a b p e ≡ true → leaves columns a b p f ≡ true → ⊥
+
+-- lemma 2: some pair leaves every fault the direction that it has, where paths do not cross or run into each other
+abbrev pub Nothing-lost : Type 0
+Nothing-lost =
+    (count : ℕ) (starts q : ℕ → ℕ) → ((k : ℕ) → k < count → (1 ≤ q k) × (q k ≤ 4))
+    → ((k : ℕ) → k < count → (1 ≤ row (starts k)) × (row (starts k) ≤ 30))
+    → ((k : ℕ) → k < count → (1 ≤ column (starts k)) × (column (starts k) ≤ 30))
+    → Crossing count (λ k. row (starts k)) (λ k. column (starts k)) q
+    → Facing count (λ k. row (starts k)) (λ k. column (starts k)) q
+    → Some-pair count starts q
+
+-- M1 to M5: the paths of a plan do not
+abbrev pub Paths-apart : Type 0
+Paths-apart =
+    (n m count : ℕ) (starts q : ℕ → ℕ) → n ≤ 30 → m ≤ 30 → ((k : ℕ) → k < count → inner n m (starts k) ≡ true)
+    → Apart count (λ i d j e. clear n m (starts i) d (starts j) e) q
+    → Crossing count (λ k. row (starts k)) (λ k. column (starts k)) q × Facing count (λ k. row (starts k)) (λ k. column (starts k)) q
+
+pub record Some-solution (count : ℕ) (clears : ℕ → ℕ → ℕ → ℕ → Bool) (lo hi : ℕ → ℕ) : Type 0 where
+  pub q : ℕ → ℕ
+  pub is : Solution count clears lo hi q
+
+-- lemma 3's heart: two options, some of them narrowed to one, and all that have one closed: where there was a solution there is one
+abbrev pub Narrowing-keeps : Type 0
+Narrowing-keeps =
+    (count : ℕ) (clears : ℕ → ℕ → ℕ → ℕ → Bool) → ((i d j e : ℕ) → clears i d j e ≡ clears j e i d)
+    → (lo hi lo′ hi′ : ℕ → ℕ) → Narrowed count lo hi lo′ hi′ → Closed count clears lo′ hi′
+    → Some-solution count clears lo hi → Some-solution count clears lo′ hi′
+
+-- a plan has no more paths than the array has spares: each ends on a spare of its own
+abbrev pub Spare-each : Type 0
+Spare-each = (n m : ℕ) (grid xs : List ℕ) → n ≤ 30 → m ≤ 30 → Plan n m grid xs → length xs ≤ 2 * (n + m)
