@@ -15,10 +15,10 @@ use Rattle.array.specs.declared.Verdict.the-variants.{Accepted, Refused}
 use Rattle.array.proofs.Bools.{and-true}
 use Rattle.array.proofs.Verdicts.{both-accepted, accepted-not}
 use Rattle.plans.specs.Check.{plan-tests}
-use Rattle.trials.specs.declared.Outcome.{Outcome}
 use Rattle.track.specs.Ports.{Wafer}
 use Rattle.track.specs.declared.Followed.{Followed}
 use Rattle.repair.specs.Operations.{answer-after, link-tests, followed-after}
+use Rattle.repair.specs.declared.Answer.{Answer}
 use Rattle.repair.specs.declared.Answer.the-variants as answer
 use Rattle.track.specs.declared.Followed.the-variants as follow
 
@@ -38,11 +38,11 @@ back-long a b c d h = two-long c d (and-true (long b) _ (and-true (long a) _ h .
 
 -- A callee answered the verdict v, which t defines.
 module _ {v t : Verdict} (e : v ≡ t) where
-  pub answer-refused : (o : Outcome) {r : Refusal} → v ≡ Refused r → answer.Refused r ≡ answer-after t o
-  answer-refused o h = ap (λ (w : Verdict). answer-after w o) (sym h ∙ e)
+  pub answer-refused : (a : Answer) {r : Refusal} → v ≡ Refused r → answer.Refused r ≡ answer-after t a
+  answer-refused a h = ap (λ (w : Verdict). answer-after w a) (sym h ∙ e)
 
-  pub answer-accepted : (o : Outcome) {p : Outcome} → v ≡ Accepted → p ≡ o → answer.Planned p ≡ answer-after t o
-  answer-accepted o h q = ap answer.Planned q ∙ ap (λ (w : Verdict). answer-after w o) (sym h ∙ e)
+  pub answer-accepted : (a : Answer) {b : Answer} → v ≡ Accepted → b ≡ a → b ≡ answer-after t a
+  answer-accepted a h q = q ∙ ap (λ (w : Verdict). answer-after w a) (sym h ∙ e)
 
   pub follow-refused : (f : Followed) {r : Refusal} → v ≡ Refused r → follow.Refused r ≡ followed-after t f
   follow-refused f h = ap (λ (w : Verdict). followed-after w f) (sym h ∙ e)

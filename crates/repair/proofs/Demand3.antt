@@ -1,16 +1,16 @@
--- Demand 3: one statement about a whole run, for either planner, every well-formed map, every limit and every content of
+-- Demand 3: one statement about a whole run, for any planner, every well-formed map, every limit and every content of
 -- the lent buffers; and the planners agree on what is beyond repair.
 -- Assumes nothing.
 use Prim.Native.Nat.{ℕ, _<_, _≤_}
 use mathlib.Core.Path.{_≡_, refl, sym, ap, subst, _∙_}
-use mathlib.Core.Bool.{Bool, true, cond, not, _&&_}
+use mathlib.Core.Bool.{true, not, _&&_, true≢false, false≢true}
 use mathlib.Core.Logic.{_⊎_, inl, inr, ⊎-elim, _↔_}
 use mathlib.Core.List.{List, [], _∷_, List·Memᴰ}
 use native.Mathlib.Omega.{arith}
 use borrow.Author.Tests.{eq-eqb, le-leb, lt-ltb}
 use lib.ListN.{length, getD}
 use Rattle.array.specs.Place.{position, row, column, processor}
-use Rattle.array.specs.Buffer.{long, all-long, written, zeros}
+use Rattle.array.specs.Buffer.{long, all-long, written}
 use Rattle.array.specs.Map.{healthy}
 use Rattle.array.specs.declared.Verdict.{Verdict}
 use Rattle.array.specs.declared.Verdict.the-variants.{Accepted}
@@ -18,15 +18,18 @@ use Rattle.array.proofs.Bools.{and-true, and-both, by-lt}
 use Rattle.array.proofs.Verdicts.{accept-both, false-accepted}
 use Rattle.array.proofs.Fills.{tabulate-length}
 use Rattle.array.proofs.Formed.{formed, formed-lent, grid-and}
-use Rattle.plans.specs.Faults.{directions-at}
+use Rattle.plans.specs.Faults.{faults, directions-at}
 use Rattle.plans.specs.Plan.{Every-choice-blocked, First-plan}
 use Rattle.plans.specs.Check.{check-plan, plan-test, Holds-plan}
 use Rattle.plans.proofs.Accepts.{accepts-plans, plan-lent}
-use Rattle.trials.specs.Trials.{Search, found, count}
+use Rattle.plans.proofs.Planned.{plan-not-blocked}
+use Rattle.trials.specs.Trials.{Search, found, exhausted, count}
 use Rattle.trials.specs.Search.{planned, outcome, directions-written}
 use Rattle.trials.specs.declared.Outcome.{Outcome}
 use Rattle.trials.specs.declared.Outcome.the-variants.{Repaired, Beyond, Spent}
 use Rattle.trials.proofs.Theorems.{trial-rule}
+use Rattle.exact.specs.Exact.{decided, directions-found}
+use Rattle.exact.specs.declared.Decision.the-variants as decision
 use Rattle.track.specs.Placement.{placement}
 use Rattle.track.specs.Letters.{across-letters, down-letters}
 use Rattle.track.specs.Ports.{Wafer, Compass, Processor, _at_}
@@ -37,23 +40,28 @@ use Rattle.track.specs.Theorems.{Routed, Cell, Neighbour, right, lower, holder}
 use Rattle.track.proofs.Theorem.{reaches, no-shared-piece, avoids-dead}
 use Rattle.track.proofs.Seats.{sits, alone, neighbour-cell}
 use Rattle.track.proofs.Accepted.{inner-cell, followed-neighbour, switches-pass, placement-holds}
-use Rattle.repair.specs.Operations.{left-by, planned-by, plan-by, directions-by, answer-after}
+use Rattle.repair.specs.Operations.{kept-by, left-by, planned-by, counts, answer-by, buffer-by}
+use Rattle.repair.specs.Operations.{plan-by, directions-by, answer-after, is-repaired, is-beyond}
 use Rattle.repair.specs.Operations.{place-cells, places-after, route-switches, across-after, down-after}
 use Rattle.repair.specs.Operations.{link-tests, follow-link, followed-after}
 use Rattle.repair.specs.Demand3.{Given, Good, answer, planned-directions, paths}
 use Rattle.repair.specs.Demand3.{kept-of, left-of, search-of, T-of, rest-of}
 use Rattle.repair.specs.Demand3.{placing, places-held, routing, routed, following, held}
 use Rattle.repair.specs.Demand3.{Reached, Neighbour-link, pieces-of, After-repaired, Demand3, Demand-3}
+use Rattle.repair.specs.Demand3.{Under-limit, Some-plan, Without-limit, Exact-agrees}
 use Rattle.repair.specs.Demand3.{Same-map, Not-spent, Planners-agree}
 use Rattle.repair.specs.declared.Planner.{Planner}
-use Rattle.repair.specs.declared.Planner.the-variants.{Trials}
-use Rattle.repair.specs.declared.Answer.the-variants.{Planned}
-use Rattle.repair.proofs.Planners.{held-by, Planner-rule, planner-rule}
-use Rattle.trials.proofs.Outcomes.{above-spent, spent-above, carried, beyond-exhausted, exhausted-beyond, repaired-found}
+use Rattle.repair.specs.declared.Planner.the-variants.{Trials, Quick, Exact}
+use Rattle.repair.specs.declared.Answer.the-variants.{Planned, Decided}
+use Rattle.repair.proofs.Planners.{held-by, Planner-rule, planner-rule, over-all, counted-answer, Repaired-as, repaired-as}
+use Rattle.trials.proofs.Outcomes.{above-spent, spent-above, carried, beyond-exhausted, found-repaired, exhausted-beyond}
 use Rattle.track.specs.Theorems as track
 
 same-outcome : (o p : Outcome) → Planned o ≡ Planned p → o ≡ p
 same-outcome o p e = cc
+
+decided-differ : Decided decision.Repaired ≡ Decided decision.Beyond → ⊥
+decided-differ e = true≢false (ap is-repaired e)
 
 module _ (g : Given) (good : Good g) where
   abbrev search : Search
@@ -77,44 +85,89 @@ module _ (g : Given) (good : Good g) where
       formed-lent (g .n) (g .m) (g .grid) (long (g .grid) && (long (g .directions) && true)) (good .map)
       (grid-and (g .n) (g .m) (g .grid) (long (g .directions) && true) (good .map) (rw (lengths .0)))
 
-  answer-is : answer g ≡ Planned (outcome (g .limit) search)
+  answer-as : answer g ≡ answer-by (g .planner) (g .limit) search
   unfolding plan-by
-  answer-is = ap (λ (v : Verdict). answer-after v (outcome (g .limit) search)) map-passes
+  answer-as = ap (λ (v : Verdict). answer-after v (answer-by (g .planner) (g .limit) search)) map-passes
 
-  directions-are : planned-directions g ≡ directions-written (g .limit) (kept-of g) (left-of g) search
+  directions-are : planned-directions g ≡ buffer-by (g .planner) (g .limit) (kept-of g) (left-of g) search
   unfolding directions-by
   directions-are =
-      ap (λ (v : Verdict). written v (directions-written (g .limit) (kept-of g) (left-of g) search) (g .directions))
+      ap (λ (v : Verdict). written v (buffer-by (g .planner) (g .limit) (kept-of g) (left-of g) search) (g .directions))
       map-passes
 
-  -- the planner's outcome
-  spent-when : (answer g ≡ Planned (Spent (g .limit))) ↔ (g .limit < T-of g)
-  spent-when = (
-    λ e. spent-above (g .limit) search (same-outcome (outcome (g .limit) search) (Spent (g .limit)) (sym answer-is ∙ e)),
-    λ l. answer-is ∙ ap Planned (above-spent (g .limit) search l),
-  )
+  no-plan : Every-choice-blocked (g .n) (g .m) (g .grid) → Some-plan (g .n) (g .m) (g .grid) → ⊥
+  no-plan b p = plan-not-blocked (g .n) (g .m) (g .grid) (p .xs) (p .is) (b (p .xs) (p .is .one-path))
 
-  carries : T-of g ≤ g .limit → (answer g ≡ Planned (Repaired (T-of g))) ⊎ (answer g ≡ Planned (Beyond (T-of g)))
-  carries l =
-      ⊎-elim (λ e. inl (answer-is ∙ ap Planned e)) (λ e. inr (answer-is ∙ ap Planned e)) (carried (g .limit) search l)
+  -- the outcome of a planner that counts its trials
+  module _ (counted : counts (g .planner) ≡ true) where
+    answer-is : answer g ≡ Planned (outcome (g .limit) search)
+    answer-is = answer-as ∙ counted-answer (g .planner) (g .limit) search counted
 
-  beyond-when : T-of g ≤ g .limit → (answer g ≡ Planned (Beyond (T-of g))) ↔ Every-choice-blocked (g .n) (g .m) (g .grid)
-  beyond-when l = (
-    λ e.
-        rule .none-found (count search)
-        (beyond-exhausted (g .limit) search (count search)
-        (same-outcome (outcome (g .limit) search) (Beyond (count search)) (sym answer-is ∙ e))),
-    λ b.
-        answer-is
-        ∙ ap (λ (s : Search). Planned (outcome (g .limit) s)) (rule .none-there b)
-        ∙ ap Planned (exhausted-beyond (g .limit) (count search) l),
-  )
+    spent-when : (answer g ≡ Planned (Spent (g .limit))) ↔ (g .limit < T-of g)
+    spent-when = (
+      λ e. spent-above (g .limit) search (same-outcome (outcome (g .limit) search) (Spent (g .limit)) (sym answer-is ∙ e)),
+      λ l. answer-is ∙ ap Planned (above-spent (g .limit) search l),
+    )
 
-  repaired-else : T-of g ≤ g .limit → (Every-choice-blocked (g .n) (g .m) (g .grid) → ⊥) → answer g ≡ Planned (Repaired (T-of g))
-  repaired-else l b = ⊎-elim (λ e. e) (λ e. absurd (b (beyond-when l .0 e))) (carries l)
+    carries : T-of g ≤ g .limit → (answer g ≡ Planned (Repaired (T-of g))) ⊎ (answer g ≡ Planned (Beyond (T-of g)))
+    carries l =
+        ⊎-elim (λ e. inl (answer-is ∙ ap Planned e)) (λ e. inr (answer-is ∙ ap Planned e)) (carried (g .limit) search l)
 
-  -- what follows on repaired, where the trials have found the directions xs within the limit
-  module _ (xs : List ℕ) (is : search ≡ found (count search) xs) (within : count search ≤ g .limit) where
+    beyond-when : T-of g ≤ g .limit → (answer g ≡ Planned (Beyond (T-of g))) ↔ Every-choice-blocked (g .n) (g .m) (g .grid)
+    beyond-when l = (
+      λ e.
+          rule .none-found (count search)
+          (beyond-exhausted (g .limit) search (count search)
+          (same-outcome (outcome (g .limit) search) (Beyond (count search)) (sym answer-is ∙ e))),
+      λ b.
+          answer-is
+          ∙ ap (λ (s : Search). Planned (outcome (g .limit) s)) (rule .none-there b)
+          ∙ ap Planned (exhausted-beyond (g .limit) (count search) l),
+    )
+
+    repaired-else : T-of g ≤ g .limit → (Every-choice-blocked (g .n) (g .m) (g .grid) → ⊥) → answer g ≡ Planned (Repaired (T-of g))
+    repaired-else l b = ⊎-elim (λ e. e) (λ e. absurd (b (beyond-when l .0 e))) (carries l)
+
+    pub limited : Under-limit g
+    limited = record { spent = spent-when; carries-T = carries; beyond = beyond-when; repaired = repaired-else }
+
+  -- what the exact planner decides
+  module _ (exact : g .planner ≡ Exact) where
+    decides : answer g ≡ Decided (decided search)
+    decides = answer-as ∙ ap (λ (pl : Planner). answer-by pl (g .limit) search) exact
+
+    decided-by : (s : Search) → search ≡ s → Without-limit g
+    unfolding decided
+    decided-by (found k xs) e =
+        let y : answer g ≡ Decided decision.Repaired = decides ∙ ap (λ (s : Search). Decided (decided s)) e in
+        let buffer = held-by (g .planner) (g .n) (g .m) (g .grid) xs in
+        let p : Some-plan (g .n) (g .m) (g .grid) =
+        record {
+          xs = directions-at buffer (faults (g .n) (g .m) (g .grid));
+          is = accepts-plans (g .n) (g .m) (g .grid) buffer .0 (rule .checked k xs e) .plan;
+        } in
+        record {
+          always = inl y;
+          repaired = (λ h. p, λ h. y);
+          beyond = (λ h. absurd (decided-differ (sym y ∙ h)), λ b. absurd (no-plan b p));
+        }
+    decided-by (exhausted k) e =
+        let y : answer g ≡ Decided decision.Beyond = decides ∙ ap (λ (s : Search). Decided (decided s)) e in
+        let b = rule .none-found k e in
+        record {
+          always = inr y;
+          repaired = (λ h. absurd (decided-differ (sym h ∙ y)), λ p. absurd (no-plan b p));
+          beyond = (λ h. b, λ c. y);
+        }
+
+    pub unlimited : Without-limit g
+    unlimited = decided-by search refl
+
+  -- what follows on repaired, where the trials have found the directions xs, which the buffer holds
+  module _ (r : Repaired-as (g .planner) (g .limit) (kept-of g) (left-of g) search) where
+    abbrev xs : List ℕ
+    xs = r .xs
+
     abbrev n : ℕ
     n = g .n
 
@@ -130,12 +183,11 @@ module _ (g : Given) (good : Good g) where
     abbrev w : Wafer
     w = routed g
 
+    is : search ≡ found (count search) xs
+    is = r .is
+
     dirs-are : dirs ≡ held-by (g .planner) n m grid xs
-    unfolding directions-written
-    dirs-are =
-        directions-are
-        ∙ ap (directions-written (g .limit) (kept-of g) (left-of g)) is
-        ∙ ap (λ (b : Bool). cond b (held-by (g .planner) n m grid xs) zeros) (le-leb (count search) (g .limit) within)
+    dirs-are = directions-are ∙ r .held
 
     rest-are : rest-of g ≡ xs
     rest-are = ap (λ (b : List ℕ). directions-at b (left-of g)) dirs-are ∙ rule .rest-held (count search) xs is
@@ -147,13 +199,14 @@ module _ (g : Given) (good : Good g) where
     holds : Holds-plan n m grid dirs
     holds = accepts-plans n m grid dirs .0 checked
 
-    -- and by the trial rule the first one
-    first : g .planner ≡ Trials → First-plan n m grid (paths g)
+    -- and by the trial rule over all faults the first one
+    first : (g .planner ≡ Trials) ⊎ (g .planner ≡ Exact) → First-plan n m grid (paths g)
     first e =
         let k = count search in
-        let p : planned n m grid ≡ found k xs = ap (λ (pl : Planner). planned-by pl n m grid) (sym e) ∙ is in
-        let q : paths g ≡ rest-of g = ap (λ (pl : Planner). directions-at dirs (left-by pl n m grid)) (sym e) in
-        subst (λ (l : List ℕ). First-plan n m grid l) (sym (q ∙ rest-are)) (trial-rule .first-of-plans n m k grid xs p)
+        let o = over-all (g .planner) n m grid e in
+        let q : paths g ≡ rest-of g = ap (directions-at dirs) (sym (o .1)) in
+        subst (λ (l : List ℕ). First-plan n m grid l) (sym (q ∙ rest-are))
+        (trial-rule .first-of-plans n m k grid xs (sym (o .0) ∙ is))
 
     grid-long : length grid ≡ 1024
     grid-long = formed n m grid (good .map) .length-is
@@ -300,38 +353,75 @@ module _ (g : Given) (good : Good g) where
           avoids-dead = λ u x y h. avoids-dead w wafer-routed (wafer-link u) (Processor x y) h;
         }
 
-  after-repaired : (t : ℕ) → answer g ≡ Planned (Repaired t) → After-repaired g
-  after-repaired t e =
-      let f = repaired-found (g .limit) search t (same-outcome (outcome (g .limit) search) (Repaired t) (sym answer-is ∙ e)) in
-      after-found (f .xs) (f .is) (f .within)
+  after-repaired : is-repaired (answer g) ≡ true → After-repaired g
+  after-repaired e =
+      after-found (repaired-as (g .planner) (g .limit) (g .n) (g .m) (g .grid) (ap is-repaired (sym answer-as) ∙ e))
 
   whole-run : Demand3 g
-  whole-run =
-      record {
-        spent = spent-when;
-        carries-T = carries;
-        beyond = beyond-when;
-        repaired = repaired-else;
-        after = after-repaired;
-      }
+  whole-run = record { under-limit = limited; without-limit = unlimited; after = after-repaired }
 
 pub demand-3 : Demand-3
 demand-3 g good = whole-run g good
 
--- where one run calls the map beyond repair, so does another of the same map
-beyond-too :
-    (g h : Given) → Good g → Good h → Same-map g h → T-of g ≤ g .limit → T-of h ≤ h .limit →
-    answer g ≡ Planned (Beyond (T-of g)) → answer h ≡ Planned (Beyond (T-of h))
-beyond-too g h x y same l k e =
-    beyond-when h y k .1 (rw (same .rows, same .columns, same .marks) at (beyond-when g x l .0 e))
+-- an answer that is not spent says beyond repair exactly when all choices are ruled out
+module _ (g : Given) (good : Good g) (un : Not-spent g) where
+  abbrev blocked : Type 0
+  blocked = Every-choice-blocked (g .n) (g .m) (g .grid)
 
-within-limit : (g : Given) → Good g → Not-spent g → T-of g ≤ g .limit
-within-limit g x un = by-lt (g .limit) (T-of g) (λ l. absurd (un (spent-when g x .1 l))) (λ l. l)
+  counted-beyond : counts (g .planner) ≡ true → (is-beyond (answer g) ≡ true) ↔ blocked
+  counted-beyond c =
+      let u = limited g good c in
+      let l = by-lt (g .limit) (T-of g) (λ h. absurd (un (u .spent .1 h))) (λ h. h) in (
+        λ h. ⊎-elim (λ e. absurd (false≢true (ap is-beyond (sym e) ∙ h))) (λ e. u .beyond l .0 e) (u .carries-T l),
+        λ b. ap is-beyond (u .beyond l .1 b),
+      )
+
+  exact-beyond : g .planner ≡ Exact → (is-beyond (answer g) ≡ true) ↔ blocked
+  exact-beyond e =
+      let u = unlimited g good e in (
+        λ h. ⊎-elim (λ x. absurd (false≢true (ap is-beyond (sym x) ∙ h))) (λ x. u .beyond .0 x) (u .always),
+        λ b. ap is-beyond (u .beyond .1 b),
+      )
+
+  beyond-by : (pl : Planner) → g .planner ≡ pl → (is-beyond (answer g) ≡ true) ↔ blocked
+  beyond-by Trials e = counted-beyond (ap counts e)
+  beyond-by Quick e = counted-beyond (ap counts e)
+  beyond-by Exact e = exact-beyond e
+
+  pub beyond-is : (is-beyond (answer g) ≡ true) ↔ blocked
+  beyond-is = beyond-by (g .planner) refl
 
 pub planners-agree : Planners-agree
-planners-agree g h x y same p q =
-    let l = within-limit g x p in
-    let k = within-limit h y q in
-    let back : Same-map h g =
-    record { rows = sym (same .rows); columns = sym (same .columns); marks = sym (same .marks) } in
-    (beyond-too g h x y same l k, beyond-too h g y x back k l)
+planners-agree g h x y same p q = (
+  λ e. beyond-is h y q .1 (rw (same .rows, same .columns, same .marks) at (beyond-is g x p .0 e)),
+  λ e. beyond-is g x p .1 (rw (same .rows, same .columns, same .marks) (beyond-is h y q .0 e)),
+)
+
+-- the trials under a limit that they keep, and without one
+agreeing : (limit : ℕ) (left : List ℕ) (s : Search) → (outcome limit s ≡ Spent limit → ⊥)
+    → (is-repaired (Decided (decided s)) ≡ is-repaired (Planned (outcome limit s)))
+    × (directions-found left s ≡ directions-written limit [] left s)
+unfolding decided directions-found directions-written
+agreeing limit left (found k xs) un =
+    by-lt limit k (λ l. absurd (un (above-spent limit (found k xs) l)))
+    (λ l. (sym (ap (λ (o : Outcome). is-repaired (Planned o)) (found-repaired limit k xs l)), rw (le-leb k limit l)))
+agreeing limit left (exhausted k) un =
+    by-lt limit k (λ l. absurd (un (above-spent limit (exhausted k) l)))
+    (λ l. (sym (ap (λ (o : Outcome). is-repaired (Planned o)) (exhausted-beyond limit k l)), refl))
+
+pub exact-agrees : Exact-agrees
+exact-agrees g h x y same t e un =
+    let n = g .n in
+    let m = g .m in
+    let grid = g .grid in
+    let s = planned n m grid in
+    let first : answer g ≡ Planned (outcome (g .limit) s) = answer-as g x ∙ ap (λ (pl : Planner). answer-by pl (g .limit) (planned-by pl n m grid)) t in
+    let left : planned-directions g ≡ directions-written (g .limit) [] (faults n m grid) s
+    = directions-are g x ∙ ap (λ (pl : Planner). buffer-by pl (g .limit) (kept-by pl n m grid) (left-by pl n m grid) (planned-by pl n m grid)) t in
+    let second : answer h ≡ Decided (decided s)
+    = rw (same .rows, same .columns, same .marks) (answer-as h y ∙ ap (λ (pl : Planner). answer-by pl (h .limit) (planned-by pl (h .n) (h .m) (h .grid))) e) in
+    let found : planned-directions h ≡ directions-found (faults n m grid) s
+    = rw (same .rows, same .columns, same .marks) (directions-are h y
+    ∙ ap (λ (pl : Planner). buffer-by pl (h .limit) (kept-by pl (h .n) (h .m) (h .grid)) (left-by pl (h .n) (h .m) (h .grid)) (planned-by pl (h .n) (h .m) (h .grid))) e) in
+    let a = agreeing (g .limit) (faults n m grid) s (λ z. un (first ∙ ap Planned z)) in
+    (ap is-repaired second ∙ a .0 ∙ sym (ap is-repaired first), found ∙ a .1 ∙ sym left)

@@ -14,25 +14,45 @@ use Rattle.array.proofs.Numbered.{Numbered-as, Numbered-verdict, numbers, map-n
 use Rattle.plans.proofs.Numbered.{plan-numbered}
 use Rattle.trials.specs.declared.Outcome.{Outcome}
 use Rattle.trials.specs.declared.Outcome.the-variants.{Repaired, Beyond, Spent}
+use Rattle.trials.specs.Trials.{Search}
+use Rattle.trials.specs.Search.{outcome}
+use Rattle.exact.specs.Exact.{decided}
+use Rattle.exact.specs.declared.Decision.{Decision}
+use Rattle.exact.specs.declared.Decision.the-variants as decision
 use Rattle.track.specs.Ports.{Wafer}
 use Rattle.track.specs.Follower.{followed}
 use Rattle.track.specs.declared.Followed.{Followed}
 use Rattle.track.proofs.Follows.{follower-refuses}
-use Rattle.repair.specs.Operations.{told, answer-after, plan-by, link-tests, followed-after, follow-link}
+use Rattle.repair.specs.Operations.{told, answer-by, answer-after, plan-by, link-tests, followed-after, follow-link}
 use Rattle.repair.specs.declared.Planner.{Planner}
+use Rattle.repair.specs.declared.Planner.the-variants.{Trials, Quick, Exact}
+use Rattle.repair.specs.declared.Answer.{Answer}
+use Rattle.repair.specs.declared.Answer.the-variants.{Planned, Decided}
 use Rattle.track.specs.Follower as links
 use Rattle.track.specs.declared.Followed.the-variants as follow
 
-numbered-answer : (v : Verdict) → Numbered-verdict v → (o : Outcome) → Numbered-as told (answer-after v o)
-numbered-answer (Refused r) h o = record { numbered = h .numbered }
-numbered-answer Accepted h (Repaired t) = search numbers
-numbered-answer Accepted h (Beyond t) = search numbers
-numbered-answer Accepted h (Spent t) = search numbers
+planned-numbered : (o : Outcome) → Numbered-as told (Planned o)
+planned-numbered (Repaired t) = search numbers
+planned-numbered (Beyond t) = search numbers
+planned-numbered (Spent t) = search numbers
+
+decided-numbered : (d : Decision) → Numbered-as told (Decided d)
+decided-numbered decision.Repaired = search numbers
+decided-numbered decision.Beyond = search numbers
+
+answer-numbered : (pl : Planner) (limit : ℕ) (s : Search) → Numbered-as told (answer-by pl limit s)
+answer-numbered Trials limit s = planned-numbered (outcome limit s)
+answer-numbered Quick limit s = planned-numbered (outcome limit s)
+answer-numbered Exact limit s = decided-numbered (decided s)
+
+numbered-answer : (v : Verdict) → Numbered-verdict v → (a : Answer) → Numbered-as told a → Numbered-as told (answer-after v a)
+numbered-answer (Refused r) h a k = record { numbered = h .numbered }
+numbered-answer Accepted h a k = k
 
 pub plan-numbered-by : (pl : Planner) (n m : ℕ) (grid directions : List ℕ) (limit : ℕ)
     → Numbered-as told (plan-by pl n m grid directions limit)
 unfolding plan-by
-plan-numbered-by pl n m grid directions limit = search (numbered-answer, map-numbered)
+plan-numbered-by pl n m grid directions limit = search (numbered-answer, map-numbered, answer-numbered)
 
 tests-numbered : (w : Wafer) (right : Bool) (cell side : ℕ) → Numbered-verdict (link-tests w right cell side)
 unfolding link-tests

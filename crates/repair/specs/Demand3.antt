@@ -1,6 +1,7 @@
 -- Demand 3, as one statement about a whole run (document 00, demand 3; document 01, end of "Placement and routing").
 -- Document 02, T-04: the openness of a plan is the narrower one, and a dead processor joins none of its ports. T-05: the
--- run is made with either planner, and both call a map beyond repair in the same cases.
+-- run is made with any of the planners, and all call a map beyond repair in the same cases. The exact planner has no limit
+-- and is never spent.
 -- Assumes nothing.
 use Prim.Native.Nat.{ℕ, _≤_, _<_}
 use mathlib.Core.Path.{_≡_}
@@ -19,6 +20,7 @@ use Rattle.plans.specs.declared.Fault.{Fault}
 use Rattle.trials.specs.Trials.{Search, found, count}
 use Rattle.trials.specs.Search.{plan-buffer}
 use Rattle.trials.specs.declared.Outcome.the-variants.{Repaired, Beyond, Spent}
+use Rattle.exact.specs.declared.Decision.the-variants as decision
 use Rattle.track.specs.Placement.{placement}
 use Rattle.track.specs.Letters.{across-letters, down-letters}
 use Rattle.track.specs.Ports.{Wafer, wafer, Compass, Processor, Port}
@@ -29,13 +31,14 @@ use Rattle.track.specs.Theorems.{Cell, Neighbour}
 use Rattle.track.specs.Avoids.{Visits}
 use Rattle.track.specs.declared.Followed.{Followed}
 use Rattle.track.specs.declared.Followed.the-variants.{Entered}
-use Rattle.repair.specs.Operations.{kept-by, left-by, planned-by, plan-by, directions-by}
+use Rattle.repair.specs.Operations.{kept-by, left-by, planned-by, counts, plan-by, directions-by}
+use Rattle.repair.specs.Operations.{is-repaired, is-beyond}
 use Rattle.repair.specs.Operations.{place-cells, places-after, route-switches, across-after, down-after}
 use Rattle.repair.specs.Operations.{follow-link}
 use Rattle.repair.specs.declared.Planner.{Planner}
-use Rattle.repair.specs.declared.Planner.the-variants.{Trials}
+use Rattle.repair.specs.declared.Planner.the-variants.{Trials, Exact}
 use Rattle.repair.specs.declared.Answer.{Answer}
-use Rattle.repair.specs.declared.Answer.the-variants.{Planned}
+use Rattle.repair.specs.declared.Answer.the-variants.{Planned, Decided}
 
 -- what is given to a run: the planner, a fault map, a limit, and the lent buffers with whatever they hold
 pub record Given : Type 0 where
@@ -49,7 +52,8 @@ pub record Given : Type 0 where
   pub across : List ℕ
   pub down : List ℕ
 
--- the map is well-formed, the limit is a u32, and every lent buffer has 1,024 elements
+-- The map is well-formed, the limit is a u32, and every lent buffer has 1,024 elements. (The exact planner is given no
+-- limit, and what is said of it does not depend on this one.)
 pub record Good (g : Given) : Type 0 where
   pub map : well-formed (g .n) (g .m) (g .grid) ≡ Accepted
   pub u32 : g .limit < 4294967296
@@ -96,7 +100,7 @@ left-of g = left-by (g .planner) (g .n) (g .m) (g .grid)
 abbrev pub search-of : Given → Search
 search-of g = planned-by (g .planner) (g .n) (g .m) (g .grid)
 
--- T: the planner's own count of trials
+-- T: the planner's own count of trials; of the exact planner, which makes none, that of the trials over all faults
 abbrev pub T-of : Given → ℕ
 T-of g = count (search-of g)
 
@@ -146,9 +150,9 @@ pub record After-repaired (g : Given) : Type 0 where
   -- the trials find the directions of the faults left, and the buffer has these and those that were kept beforehand
   pub by-rule : search-of g ≡ found (T-of g) (rest-of g)
   pub directions-defined : planned-directions g ≡ plan-buffer (kept-of g) (left-of g) (rest-of g)
-  -- the paths are a plan, and by the trial rule over all faults the first of all plans
+  -- the paths are a plan, and by the trial rule over all faults and by the exact planner the first of all plans
   pub is-plan : Plan (g .n) (g .m) (g .grid) (paths g)
-  pub first-plan : g .planner ≡ Trials → First-plan (g .n) (g .m) (g .grid) (paths g)
+  pub first-plan : (g .planner ≡ Trials) ⊎ (g .planner ≡ Exact) → First-plan (g .n) (g .m) (g .grid) (paths g)
   -- placement and routing accept, and their buffers hold what `track` defines for the directions
   pub placing-accepted : placing g ≡ Accepted
   pub placement-defined : places-held g ≡ placement (g .n) (g .m) (g .grid) (planned-directions g)
@@ -167,8 +171,8 @@ pub record After-repaired (g : Given) : Type 0 where
   -- and none enters a dead processor
   pub avoids-dead : (u : Neighbour-link g) (x y : ℕ) → dead (g .grid) (position x y) ≡ true → Visits (u .link) (Processor x y) → ⊥
 
--- DEMAND 3, of one run
-pub record Demand3 (g : Given) : Type 0 where
+-- what a planner that counts its trials answers
+pub record Under-limit (g : Given) : Type 0 where
   -- spent, with the limit, exactly when T is above the limit
   pub spent : (answer g ≡ Planned (Spent (g .limit))) ↔ (g .limit < T-of g)
   -- otherwise the answer carries T
@@ -177,8 +181,26 @@ pub record Demand3 (g : Given) : Type 0 where
   pub beyond : T-of g ≤ g .limit → (answer g ≡ Planned (Beyond (T-of g))) ↔ Every-choice-blocked (g .n) (g .m) (g .grid)
   -- in every other case it is repaired
   pub repaired : T-of g ≤ g .limit → (Every-choice-blocked (g .n) (g .m) (g .grid) → ⊥) → answer g ≡ Planned (Repaired (T-of g))
-  -- and then all that is said of its paths holds
-  pub after : (t : ℕ) → answer g ≡ Planned (Repaired t) → After-repaired g
+
+pub record Some-plan (n m : ℕ) (grid : List ℕ) : Type 0 where
+  pub xs : List ℕ
+  pub is : Plan n m grid xs
+
+-- what the exact planner answers
+pub record Without-limit (g : Given) : Type 0 where
+  -- it is never spent
+  pub always : (answer g ≡ Decided decision.Repaired) ⊎ (answer g ≡ Decided decision.Beyond)
+  -- it says repaired exactly when there is a plan, and beyond repair exactly when all choices are ruled out
+  pub repaired : (answer g ≡ Decided decision.Repaired) ↔ Some-plan (g .n) (g .m) (g .grid)
+  pub beyond : (answer g ≡ Decided decision.Beyond) ↔ Every-choice-blocked (g .n) (g .m) (g .grid)
+
+-- DEMAND 3, of one run
+pub record Demand3 (g : Given) : Type 0 where
+  -- what the planner answers, by whether its trials are counted against a limit
+  pub under-limit : counts (g .planner) ≡ true → Under-limit g
+  pub without-limit : g .planner ≡ Exact → Without-limit g
+  -- and after `repaired` all that is said of its paths holds
+  pub after : is-repaired (answer g) ≡ true → After-repaired g
 
 -- for every well-formed map, every limit and every content of the lent buffers
 abbrev pub Demand-3 : Type 0
@@ -193,8 +215,14 @@ pub record Same-map (g h : Given) : Type 0 where
 abbrev pub Not-spent : Given → Type 0
 Not-spent g = answer g ≡ Planned (Spent (g .limit)) → ⊥
 
--- T-05: both planners call a map beyond repair in the same cases, where neither is spent
+-- T-05: all planners call a map beyond repair in the same cases, where none of them is spent
 abbrev pub Planners-agree : Type 0
 Planners-agree =
     (g h : Given) → Good g → Good h → Same-map g h → Not-spent g → Not-spent h
-    → (answer g ≡ Planned (Beyond (T-of g))) ↔ (answer h ≡ Planned (Beyond (T-of h)))
+    → (is-beyond (answer g) ≡ true) ↔ (is-beyond (answer h) ≡ true)
+
+-- where the trial rule over all faults is not spent, the exact planner says the same and writes the same
+abbrev pub Exact-agrees : Type 0
+Exact-agrees =
+    (g h : Given) → Good g → Good h → Same-map g h → g .planner ≡ Trials → h .planner ≡ Exact → Not-spent g
+    → (is-repaired (answer h) ≡ is-repaired (answer g)) × (planned-directions h ≡ planned-directions g)

@@ -1,6 +1,7 @@
 // The operations of a run: the planners, placement, routing and follower.
 use array::Refusal;
 use array::Verdict;
+use exact::Decision;
 use track::Followed;
 use trials::Outcome;
 ghost use mathlib.Core.Path.{_≡_};
@@ -9,31 +10,34 @@ ghost use Prim.Native.Nat.{_≤_, _<_};
 ghost use lib.ListN.{length};
 ghost use Rattle.array.specs.Place.{inner};
 ghost use Rattle.plans.specs.Inner.{Directed};
-ghost use Rattle.trials.specs.Search.{outcome, directions-written};
 ghost use Rattle.track.specs.Follower.{followed};
 ghost use Rattle.follower.specs.Inner.{Ready};
 ghost use Rattle.track.specs.Ports.{wafer};
-ghost use Rattle.repair.specs.Operations.{kept-by, left-by, planned-by, plan-by, directions-by};
+ghost use Rattle.repair.specs.Operations.{kept-by, left-by, planned-by, answer-by, buffer-by, plan-by, directions-by};
 ghost use Rattle.repair.specs.Operations.{plan-repair, directions-after, plan-quickly, directions-quickly};
+ghost use Rattle.repair.specs.Operations.{plan-exactly, directions-exactly};
 ghost use Rattle.repair.specs.Operations.{place-cells, places-after, route-switches, across-after, down-after};
 ghost use Rattle.repair.specs.Operations.{link-tests, follow-link};
 ghost use Rattle.array.specs.Tests as tests;
 ghost use Rattle.track.specs.Follower as links;
 ghost use Rattle.repair.specs.Operations as operations;
 
-// The planners: the trial rule over all inner faults, and the quick one, which settles outer faults first.
+// The planners: the trial rule over all inner faults, the quick one, which settles outer faults first, and the exact one,
+// which is never spent.
 pub enum Planner {
     Trials,
     Quick,
+    Exact,
 }
 
-// What a planner answers: its outcome, or a refusal with its places.
+// What a planner answers: the outcome of its trials, what the exact planner decides, or a refusal with its places.
 pub enum Answer {
     Planned(Outcome),
+    Decided(Decision),
     Refused(Refusal),
 }
 
-// Inner part: a planner on a map that passes the tests 1 to 3.
+// Inner part: a planner on a map that passes the tests 1 to 3. The exact planner reads no limit.
 pub fn find_by(
     planner: Planner,
     n: usize,
@@ -41,15 +45,16 @@ pub fn find_by(
     grid: &[u8],
     directions: &mut [u8],
     limit: u32,
-) -> Outcome
+) -> Answer
     requires { ⌜ (n ≤ 30) × (m ≤ 30) × (length (now grid) ≡ 1024) × (length (now directions) ≡ 1024) ⌝ }
-    ensures { λ r. ⌜ (r ≡ outcome limit (planned-by planner n m (now (grid .entry))))
-        × (now (directions .exit) ≡ directions-written limit (kept-by planner n m (now (grid .entry)))
+    ensures { λ r. ⌜ (r ≡ answer-by planner limit (planned-by planner n m (now (grid .entry))))
+        × (now (directions .exit) ≡ buffer-by planner limit (kept-by planner n m (now (grid .entry)))
         (left-by planner n m (now (grid .entry))) (planned-by planner n m (now (grid .entry)))) ⌝ }
 {
     match planner {
-        Planner::Trials => trials::find_plan(n, m, grid, directions, limit),
-        Planner::Quick => peeling::find_plan(n, m, grid, directions, limit),
+        Planner::Trials => Answer::Planned(trials::find_plan(n, m, grid, directions, limit)),
+        Planner::Quick => Answer::Planned(peeling::find_plan(n, m, grid, directions, limit)),
+        Planner::Exact => Answer::Decided(exact::find_exactly(n, m, grid, directions)),
     }
 }
 
@@ -72,7 +77,7 @@ pub fn plan_by(
     if let Verdict::Refused(r) = v {
         return Answer::Refused(r);
     }
-    Answer::Planned(find_by(planner, n, m, grid, directions, limit))
+    find_by(planner, n, m, grid, directions, limit)
 }
 
 // The planner: the outcome of the trials under a limit. Repaired writes the plan; beyond repair and spent write 0 in the whole buffer.
@@ -91,6 +96,15 @@ pub fn plan_quickly(n: usize, m: usize, grid: &[u8], directions: &mut [u8], limi
         ≡ directions-quickly n m (now (grid .entry)) (now (directions .entry)) limit ⌝ }
 {
     plan_by(Planner::Quick, n, m, grid, directions, limit)
+}
+
+// The exact planner: the first of all plans, where there is one, without a limit. Repaired writes the plan; beyond repair
+// writes 0 in the whole buffer.
+pub fn plan_exactly(n: usize, m: usize, grid: &[u8], directions: &mut [u8]) -> Answer
+    ensures answer { λ r. ⌜ operations.told r ≡ operations.told (plan-exactly n m (now (grid .entry)) (now (directions .entry))) ⌝ }
+    ensures buffer { λ _. ⌜ now (directions .exit) ≡ directions-exactly n m (now (grid .entry)) (now (directions .entry)) ⌝ }
+{
+    plan_by(Planner::Exact, n, m, grid, directions, 0)
 }
 
 // The placement of a plan: at 32i + j the position that holds cell [i, j], else 0.
