@@ -1,7 +1,7 @@
 -- Where the tests of a run pass, demand 3 holds of it; and after `repaired` every link to a neighbour is found to reach it.
 -- Assumes nothing.
 use mathlib.Core.Path.{_≡_, refl, sym, ap, _∙_}
-use mathlib.Core.Bool.{Bool, true, false, _&&_, false≢true}
+use mathlib.Core.Bool.{Bool, true, false, _&&_}
 use mathlib.Core.List.{[], _∷_}
 use Prim.Native.Nat.{ℕ, _+_, _*_, _<_}
 use native.Mathlib.Omega.{arith}
@@ -17,15 +17,12 @@ use Rattle.array.proofs.Maps.{map-accepted}
 use Rattle.array.proofs.Formed.{formed}
 use Rattle.array.proofs.Places.{inner-holds}
 use Rattle.array.proofs.Verdicts.{accept-both}
-use Rattle.trials.specs.declared.Outcome.{Outcome}
-use Rattle.trials.specs.declared.Outcome.the-variants.{Repaired, Beyond, Spent}
 use Rattle.track.specs.Ports.{Compass, W, N}
 use Rattle.track.specs.Follower.{port-number}
 use Rattle.track.specs.Theorems.{Cell, Neighbour, right, lower}
 use Rattle.repair.specs.Operations.{follow-link}
-use Rattle.repair.specs.Demand3.{Given, Good, answer, planned-directions, places-held, routed, After-repaired, Demand3}
-use Rattle.repair.specs.declared.Answer.the-variants.{Planned}
-use Rattle.runs.specs.Run.{run-test, is-repaired, neighbour-of, arrives-at, has-neighbour, reached, links-reached, all-reached, unless-refused-count, links-found, link-count}
+use Rattle.repair.specs.Demand3.{Given, Good, planned-directions, places-held, routed, After-repaired}
+use Rattle.runs.specs.Run.{run-test, neighbour-of, arrives-at, has-neighbour, reached, links-reached, all-reached, unless-refused-count, links-found, link-count}
 use Rattle.runs.proofs.LinkCount.{right-links, lower-links}
 
 -- the arguments are as demand 3 asks
@@ -35,12 +32,6 @@ run-good g passed u32 =
     let l = and-true (long (g .grid)) _ (a .lengths) in
     let e : (long (g .grid) && true) ≡ true = rw (l .0) in
     record { map = ap (λ (b : Bool). map-tests (g .n) (g .m) b (g .grid)) (e ∙ sym (a .lengths)) ∙ passed; u32 = u32; lent = l .1 }
-
--- what demand 3 says of an outcome that is `repaired`
-pub repaired-after : (g : Given) → Demand3 g → (o : Outcome) → Planned o ≡ answer g → is-repaired (Planned o) ≡ true → After-repaired g
-repaired-after g d (Repaired t) e h = d .after t (sym e)
-repaired-after g d (Beyond t) e h = absurd (false≢true h)
-repaired-after g d (Spent t) e h = absurd (false≢true h)
 
 and-same : (b x : Bool) → (b ≡ true → x ≡ true) → (b && x) ≡ b
 and-same true x f = f refl

@@ -12,19 +12,16 @@ use Rattle.array.specs.declared.Verdict.the-variants.{Accepted, Refused}
 use Rattle.array.proofs.Bools.{and-true}
 use Rattle.array.proofs.Formed.{formed-lent, grid-and}
 use Rattle.array.proofs.Verdicts.{kept-refused, written-accepted}
-use Rattle.trials.specs.Search.{outcome, directions-written}
-use Rattle.trials.specs.declared.Outcome.{Outcome}
-use Rattle.repair.specs.Operations.{told, planner-test, plan-by, directions-by}
+use Rattle.repair.specs.Operations.{told, is-repaired, answer-by, buffer-by, answer-after, planner-test, plan-by, directions-by}
 use Rattle.repair.specs.Operations.{places-after, across-after, down-after}
 use Rattle.repair.specs.Demand3.{Given, Good, answer, planned-directions, kept-of, left-of, search-of}
 use Rattle.repair.specs.Demand3.{places-held, routed, After-repaired, Demand3}
 use Rattle.repair.specs.declared.Answer.{Answer}
-use Rattle.repair.specs.declared.Answer.the-variants.{Planned}
 use Rattle.repair.proofs.Calls.{answer-accepted}
 use Rattle.repair.proofs.Demand3.{demand-3}
-use Rattle.runs.specs.Run.{run-test, unless-refused, run-answer, run-directions, is-repaired, run-places, run-across, run-down, links-found, run-links, link-count, Ran-as}
+use Rattle.runs.specs.Run.{run-test, run-answer, run-directions, run-places, run-across, run-down, links-found, run-links, link-count, Ran-as}
 use Rattle.runs.specs.Inner.{Accepts}
-use Rattle.runs.proofs.Every.{run-good, repaired-after, all-found}
+use Rattle.runs.proofs.Every.{run-good, all-found}
 use Rattle.repair.specs.declared.Answer.the-variants as the-answer
 
 never-both : {v : Verdict} {r : Refusal} → v ≡ Refused r → v ≡ Accepted → ⊥
@@ -65,13 +62,13 @@ module _ (g : Given) (u32 : g .limit < 4294967296) where
         → Ran-as g (record { answer = the-answer.Refused r; links = 0 }) (g .directions) (g .places) (g .across) (g .down)
     unfolding run-answer run-directions
     ran-refused h =
-        ran (ap (λ (w : Verdict). unless-refused w (answer g)) (sym h ∙ tested)) refl (kept-refused tested _ _ h)
+        ran (ap (λ (w : Verdict). answer-after w (answer g)) (sym h ∙ tested)) refl (kept-refused tested _ _ h)
         (λ p. absurd (never-both (sym tested ∙ h) p)) refl refl refl refl (λ f. absurd (false≢true f))
 
-    -- The tests pass, and the planner has the outcome o and leaves ds in the direction buffer.
+    -- The tests pass, and the planner answers a and leaves ds in the direction buffer.
     module _ (passed : v ≡ Accepted)
-        {o : Outcome} (found : o ≡ outcome (g .limit) (search-of g))
-        {ds : List ℕ} (left : ds ≡ directions-written (g .limit) (kept-of g) (left-of g) (search-of g)) where
+        {a : Answer} (found : a ≡ answer-by (g .planner) (g .limit) (search-of g))
+        {ds : List ℕ} (left : ds ≡ buffer-by (g .planner) (g .limit) (kept-of g) (left-of g) (search-of g)) where
       passes : run-test g ≡ Accepted
       passes = sym tested ∙ passed
 
@@ -81,7 +78,7 @@ module _ (g : Given) (u32 : g .limit < 4294967296) where
           formed-lent (g .n) (g .m) (g .grid) (long (g .grid) && (long (g .directions) && true)) (d .map)
           (grid-and (g .n) (g .m) (g .grid) (long (g .directions) && true) (d .map) (rw (and-true (long (g .directions)) _ (d .lent) .0)))
 
-      as-planned : Planned o ≡ answer g
+      as-planned : a ≡ answer g
       unfolding plan-by
       as-planned = answer-accepted refl _ planner-passes found
 
@@ -89,22 +86,22 @@ module _ (g : Given) (u32 : g .limit < 4294967296) where
       unfolding directions-by
       as-left = written-accepted refl _ _ planner-passes left
 
-      answered : Planned o ≡ run-answer g
+      answered : a ≡ run-answer g
       unfolding run-answer
-      answered = as-planned ∙ ap (λ (w : Verdict). unless-refused w (answer g)) (sym passes)
+      answered = as-planned ∙ ap (λ (w : Verdict). answer-after w (answer g)) (sym passes)
 
       directions-left : ds ≡ run-directions g
       unfolding run-directions
       directions-left = written-accepted refl _ _ passes as-left
 
-      pub ran-planned : is-repaired (Planned o) ≡ false
-          → Ran-as g (record { answer = Planned o; links = 0 }) ds (g .places) (g .across) (g .down)
+      pub ran-planned : is-repaired a ≡ false
+          → Ran-as g (record { answer = a; links = 0 }) ds (g .places) (g .across) (g .down)
       ran-planned h =
           ran answered h directions-left (λ p. (as-planned, as-left)) refl refl refl refl (λ f. absurd (false≢true f))
 
-      module _ (repaired : is-repaired (Planned o) ≡ true) where
+      module _ (repaired : is-repaired a ≡ true) where
         after : After-repaired g
-        after = repaired-after g (demand passes .1) o as-planned repaired
+        after = demand passes .1 .after (ap is-repaired (sym as-planned) ∙ repaired)
 
         pub accepts : Accepts (g .n) (g .m) (g .grid) ds (g .places) (g .across) (g .down)
         accepts = rw as-left (record { placing = after .placing-accepted; routing = after .routing-accepted })
@@ -114,7 +111,7 @@ module _ (g : Given) (u32 : g .limit < 4294967296) where
             → places ≡ places-after (g .n) (g .m) (g .grid) ds (g .places)
             → across ≡ across-after (g .n) (g .m) (g .grid) ds (g .across) (g .down)
             → down ≡ down-after (g .n) (g .m) (g .grid) ds (g .across) (g .down)
-            → Ran-as g (record { answer = Planned o; links = k }) ds places across down
+            → Ran-as g (record { answer = a; links = k }) ds places across down
         ran-repaired l p x y =
             ran answered repaired directions-left (λ q. (as-planned, as-left))
             (rw as-left at l) (rw as-left at p) (rw as-left at x) (rw as-left at y) (λ f. all-found g (demand passes .0) after)

@@ -1,4 +1,4 @@
--- One run with either planner: what the function that makes its calls answers, and every buffer afterwards (document
+-- One run with any planner: what the function that makes its calls answers, and every buffer afterwards (document
 -- 00, demand 3; document 01, end of "Placement and routing"; document 02, T-05). Assumes nothing.
 use Prim.Native.Nat.{ℕ, _+_, _-_, _*_}
 use mathlib.Core.Path.{_≡_}
@@ -12,15 +12,13 @@ use Rattle.array.specs.Buffer.{written, positions-in}
 use Rattle.array.specs.Map.{map-test}
 use Rattle.array.specs.declared.Verdict.{Verdict}
 use Rattle.array.specs.declared.Verdict.the-variants.{Accepted}
-use Rattle.trials.specs.declared.Outcome.the-variants.{Repaired, Beyond, Spent}
 use Rattle.track.specs.Ports.{Wafer, wafer}
 use Rattle.track.specs.Follower.{by-side}
 use Rattle.track.specs.declared.Followed.{Followed}
-use Rattle.repair.specs.Operations.{told, place-cells, places-after, route-switches, across-after, down-after, follow-link}
+use Rattle.repair.specs.Operations.{told, answer-after, is-repaired, place-cells, places-after, route-switches, across-after, down-after, follow-link}
 use Rattle.repair.specs.Demand3.{Given, Good, answer, planned-directions, places-held, routed, Demand3}
 use Rattle.repair.specs.declared.Planner.{Planner}
 use Rattle.repair.specs.declared.Answer.{Answer}
-use Rattle.repair.specs.declared.Answer.the-variants.{Planned, Refused}
 use Rattle.runs.specs.declared.Ran.{Ran}
 use Rattle.array.specs.declared.Verdict.the-variants as verdict
 use Rattle.track.specs.declared.Followed.the-variants as follow
@@ -45,22 +43,12 @@ run-test g =
     map-test (g .n) (g .m) (g .grid ∷ g .directions ∷ g .places ∷ g .across ∷ g .down ∷ []) (g .grid)
 
 -- the refusal of these tests, else the planner's answer
-abbrev pub unless-refused : Verdict → Answer → Answer
-unless-refused verdict.Accepted a = a
-unless-refused (verdict.Refused r) a = Refused r
-
 unfoldable pub run-answer : Given → Answer
-run-answer g = unless-refused (run-test g) (answer g)
+run-answer g = answer-after (run-test g) (answer g)
 
 -- the direction buffer: as the planner leaves it, or as lent where the tests refuse
 unfoldable pub run-directions : Given → List ℕ
 run-directions g = written (run-test g) (planned-directions g) (g .directions)
-
-abbrev pub is-repaired : Answer → Bool
-is-repaired (Planned (Repaired t)) = true
-is-repaired (Planned (Beyond t)) = false
-is-repaired (Planned (Spent limit)) = false
-is-repaired (Refused r) = false
 
 -- Placement, routing and follower are called after `repaired`. Otherwise the placement and the switch buffers stay as they were.
 abbrev pub if-repaired : {A : Type 0} → Given → A → A → A

@@ -1,5 +1,6 @@
 // One run: planner, placement, routing, and the follower on every link to a neighbour.
 use array::Verdict;
+use exact::Decision;
 use repair::Answer;
 use repair::Planner;
 use track::Followed;
@@ -8,10 +9,10 @@ ghost use mathlib.Core.Path.{_≡_};
 ghost use Prim.Native.Nat.{_≤_, _<_};
 ghost use lib.ListN.{length, getD};
 ghost use Rattle.track.specs.Ports.{wafer};
-ghost use Rattle.repair.specs.Operations.{places-after, across-after, down-after};
-ghost use Rattle.repair.specs.declared.Planner.the-variants.{Trials, Quick};
-ghost use Rattle.repair.specs.declared.Answer.the-variants.{Planned};
-ghost use Rattle.runs.specs.Run.{given, is-repaired, has-neighbour, neighbour-of, arrives-at, reached, links-reached, all-reached, links-found, Ran-as};
+ghost use Rattle.repair.specs.Operations.{places-after, across-after, down-after, is-repaired};
+ghost use Rattle.repair.specs.declared.Planner.the-variants.{Trials, Quick, Exact};
+ghost use Rattle.repair.specs.declared.Answer.the-variants.{Planned, Decided};
+ghost use Rattle.runs.specs.Run.{given, has-neighbour, neighbour-of, arrives-at, reached, links-reached, all-reached, links-found, Ran-as};
 ghost use Rattle.runs.specs.Inner.{Accepts, Laid};
 
 // What a run answers: the refusal of its tests or the planner's answer, and how many links to a neighbour the follower found to reach it.
@@ -20,15 +21,34 @@ pub struct Ran {
     pub links: usize,
 }
 
-// repair_run and run_quickly are for callers; the other functions are inner parts.
+// repair_run, run_quickly and run_exactly are for callers; the other functions are inner parts.
 
-fn is_repaired(outcome: Outcome) -> bool
+fn is_outcome_repaired(outcome: Outcome) -> bool
     ensures { λ r. ⌜ r ≡ is-repaired (Planned outcome) ⌝ }
 {
     match outcome {
         Outcome::Repaired(_) => true,
         Outcome::Beyond(_) => false,
         Outcome::Spent(_) => false,
+    }
+}
+
+fn is_decision_repaired(decision: Decision) -> bool
+    ensures { λ r. ⌜ r ≡ is-repaired (Decided decision) ⌝ }
+{
+    match decision {
+        Decision::Repaired => true,
+        Decision::Beyond => false,
+    }
+}
+
+fn is_repaired(answer: Answer) -> bool
+    ensures { λ r. ⌜ r ≡ is-repaired answer ⌝ }
+{
+    match answer {
+        Answer::Planned(outcome) => is_outcome_repaired(outcome),
+        Answer::Decided(decision) => is_decision_repaired(decision),
+        Answer::Refused(_) => false,
     }
 }
 
@@ -185,9 +205,8 @@ pub fn run_by(
             links: 0,
         };
     }
-    let outcome = repair::find_by(planner, n, m, grid, directions, limit);
-    let answer = Answer::Planned(outcome);
-    if !is_repaired(outcome) {
+    let answer = repair::find_by(planner, n, m, grid, directions, limit);
+    if !is_repaired(answer) {
         return Ran { answer, links: 0 };
     }
     let links = complete(n, m, grid, directions, places, across, down);
@@ -246,6 +265,34 @@ pub fn run_quickly(
         m,
         grid,
         limit,
+        directions,
+        places,
+        across,
+        down,
+    )
+}
+
+// The same with the exact planner, which is given no limit.
+pub fn run_exactly(
+    n: usize,
+    m: usize,
+    grid: &[u8],
+    directions: &mut [u8],
+    places: &mut [u16],
+    across: &mut [u8],
+    down: &mut [u8],
+) -> Ran
+    ensures { λ r. ⌜ Ran-as
+        (given Exact n m (now (grid .entry)) 0
+        (now (directions .entry)) (now (places .entry)) (now (across .entry)) (now (down .entry)))
+        r (now (directions .exit)) (now (places .exit)) (now (across .exit)) (now (down .exit)) ⌝ }
+{
+    run_by(
+        Planner::Exact,
+        n,
+        m,
+        grid,
+        0,
         directions,
         places,
         across,
