@@ -7,6 +7,8 @@ use Rattle.array.specs.Buffer.{zeros}
 use Rattle.array.specs.declared.Refusal.{Refusal}
 use Rattle.trials.specs.declared.Outcome.{Outcome}
 use Rattle.trials.specs.declared.Outcome.the-variants.{Repaired, Beyond, Spent}
+use Rattle.exact.specs.declared.Decision.{Decision}
+use Rattle.exact.specs.declared.Decision.the-variants as decision
 use Rattle.repair.specs.Operations.{plan-by, directions-by}
 use Rattle.repair.specs.declared.Planner.{Planner}
 use Rattle.repair.specs.declared.Answer.{Answer}
@@ -22,7 +24,7 @@ use Rattle.readers.specs.declared.FileRead.the-variants as reader
 use Rattle.writers.proofs.Runs.{Splits, splits}
 use Rattle.listing.specs.Listing.{along, field, line, newline, fault-bytes, seat-bytes, letter-bytes, switch-line}
 use Rattle.listing.specs.Listing.{across-word, down-word, repaired-word, beyond-word, spent-word}
-use Rattle.listing.specs.Listing.{plan-lines, repair-lines, outcome-lines, refusal-line, head-line, limit}
+use Rattle.listing.specs.Listing.{plan-lines, repair-lines, outcome-lines, decision-lines, refusal-line, head-line, limit}
 use Rattle.listing.specs.Listing.{map-lines, planned-lines, file-lines, listing}
 
 -- the first part of a line, and of the lines of a plan
@@ -58,6 +60,17 @@ module _ (n m : ℕ) (grid directions : List ℕ) {o : Outcome} {t : ℕ} where
   unfolding outcome-lines
   outcome-spent e = rw e refl
 
+-- a decision that is known
+module _ (n m : ℕ) (grid directions : List ℕ) {d : Decision} where
+  pub decision-repaired : d ≡ decision.Repaired
+      → Splits (decision-lines n m grid directions d) (repaired-word ++ newline) (repair-lines n m grid directions)
+  unfolding decision-lines
+  decision-repaired e = record { is = rw e refl }
+
+  pub decision-beyond : d ≡ decision.Beyond → decision-lines n m grid directions d ≡ beyond-word ++ newline
+  unfolding decision-lines
+  decision-beyond e = rw e refl
+
 -- The planner answered r for blank directions, and left directions′.
 module _ (pl : Planner) (head : Head) (grid : List ℕ) (r : Answer) {directions directions′ : List ℕ}
     (b : directions ≡ zeros)
@@ -77,6 +90,13 @@ module _ (pl : Planner) (head : Head) (grid : List ℕ) (r : Answer) {directions
       (outcome-lines (head .rows) (head .columns) grid directions′ o)
   unfolding map-lines
   map-planned h = record { is = rw (answer-is, h, directions-are) refl }
+
+  pub map-decided :
+      {x : Decision} → r ≡ answer.Decided x
+      → Splits (planned-lines pl head grid) (head-line head)
+      (decision-lines (head .rows) (head .columns) grid directions′ x)
+  unfolding map-lines
+  map-decided h = record { is = rw (answer-is, h, directions-are) refl }
 
   pub map-refused : {s : Refusal} → r ≡ answer.Refused s → planned-lines pl head grid ≡ refusal-line s
   unfolding map-lines

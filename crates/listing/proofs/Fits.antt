@@ -2,7 +2,7 @@
 -- Assumes nothing.
 use Prim.Native.Nat.{ℕ, zero, suc, _+_, _-_, _*_, _/_, _%_, _<_, _≤_}
 use mathlib.Core.Path.{_≡_, refl, sym, ap, subst, _∙_}
-use mathlib.Core.Bool.{true}
+use mathlib.Core.Bool.{Bool, true, false, true≢false}
 use mathlib.Core.List.{List, [], _∷_, _++_}
 use native.Mathlib.Nat.{zero-add, add-zero, add-suc, suc-add, mul-suc}
 use native.Mathlib.Omega.{arith}
@@ -21,8 +21,10 @@ use Rattle.array.proofs.Maps.{Accepted-map, map-accepted}
 use Rattle.array.proofs.Fills.{tabulate-at}
 use Rattle.trials.specs.declared.Outcome.{Outcome}
 use Rattle.trials.specs.declared.Outcome.the-variants.{Repaired, Beyond, Spent}
+use Rattle.exact.specs.declared.Decision.{Decision}
+use Rattle.exact.specs.declared.Decision.the-variants as decision
 use Rattle.track.specs.Placement.{placement}
-use Rattle.repair.specs.Operations.{plan-by, directions-by, answer-after}
+use Rattle.repair.specs.Operations.{plan-by, answer-after}
 use Rattle.repair.specs.Operations.{place-cells, places-after, across-after, down-after}
 use Rattle.repair.specs.declared.Planner.{Planner}
 use Rattle.repair.specs.declared.Answer.{Answer}
@@ -31,6 +33,7 @@ use Rattle.readers.specs.Reading.{read-map}
 use Rattle.readers.specs.declared.Head.{Head}
 use Rattle.readers.specs.declared.FileRead.{FileRead}
 use Rattle.listing.specs.Listing.{along, digits, field, line, newline, map-word, repaired-word, beyond-word, spent-word, refused-word, path-word, cell-word, across-word, down-word, direction-letter, path-line, cell-line, fault-bytes, seat-bytes, letter-bytes, switch-line, plan-lines, repair-lines, outcome-lines, refusal-line, head-line, limit, map-lines, file-lines, listing, Listing-fits}
+use Rattle.listing.specs.Listing.{decision-lines, answer-lines, left-by-planner}
 use Rattle.listing.proofs.Buffers.{places-long, across-long, down-long}
 use Rattle.repair.specs.declared.Answer.the-variants as answer
 use Rattle.readers.specs.declared.FileRead.the-variants as reader
@@ -216,6 +219,17 @@ module _ (n m : ℕ) (grid directions : List ℕ) (s : Sized n m) (l : length gr
   outcome-short (Beyond t) = omega (arith, count-short beyond-word t)
   outcome-short (Spent t) = omega (arith, count-short spent-word t)
 
+  decision-short : (d : Decision) → length (decision-lines n m grid directions d) ≤ 31900
+  unfolding decision-lines
+  decision-short decision.Repaired =
+      omega (arith, length-append (repaired-word ++ newline) (repair-lines n m grid directions), repair-short)
+  decision-short decision.Beyond = omega arith
+
+  answer-short : (a : Answer) → length (answer-lines n m grid directions a) ≤ 31900
+  answer-short (answer.Planned o) = outcome-short o
+  answer-short (answer.Decided d) = decision-short d
+  answer-short (answer.Refused r) = omega arith
+
 refusal-short : (r : Refusal) → length (refusal-line r) ≤ 50
 unfolding refusal-line
 refusal-short r =
@@ -244,31 +258,45 @@ head-short h =
       digits-most 19 (h .count),
     )
 
--- the planner's tests have passed where it answers an outcome
-planned-accepted : (v : Verdict) (o p : Outcome) → answer-after v o ≡ answer.Planned p → v ≡ Accepted
-planned-accepted Accepted o p h = refl
-planned-accepted (Refused r) o p h = let z : _≡_ {A = ℕ} 0 1 = cc in absurd (omega arith)
+abbrev is-refused : Answer → Bool
+is-refused (answer.Planned o) = false
+is-refused (answer.Decided d) = false
+is-refused (answer.Refused r) = true
 
-planned-map :
-    (pl : Planner) (n m : ℕ) (grid : List ℕ) (o : Outcome) → plan-by pl n m grid zeros limit ≡ answer.Planned o →
-    Accepted-map n m (all-long (grid ∷ zeros ∷ [])) grid
-unfolding plan-by
-planned-map pl n m grid o h = map-accepted n m (all-long (grid ∷ zeros ∷ [])) grid (planned-accepted _ _ o h)
+-- the planner's tests have passed where it does not refuse
+module _ (pl : Planner) (head : Head) (grid : List ℕ) where
+  abbrev n : ℕ
+  n = head .rows
 
-map-short :
-    (pl : Planner) (head : Head) (grid : List ℕ) (a : Answer) →
-    plan-by pl (head .rows) (head .columns) grid zeros limit ≡ a → length (map-lines pl head grid a) ≤ 32768
-unfolding map-lines
-map-short pl head grid (answer.Planned o) h =
-    let a = planned-map pl (head .rows) (head .columns) grid o h in
-    let d = directions-by pl (head .rows) (head .columns) grid zeros limit in
-    omega (
-      arith,
-      length-append (head-line head) (outcome-lines (head .rows) (head .columns) grid d o),
-      head-short head,
-      outcome-short (head .rows) (head .columns) grid d (a .sizes) (eqb-true _ _ (and-true (long grid) _ (a .lengths) .0)) o,
-    )
-map-short pl head grid (answer.Refused r) h = omega (arith, refusal-short r)
+  abbrev m : ℕ
+  m = head .columns
+
+  passed : (v : Verdict) (a b : Answer) → answer-after v a ≡ b → (is-refused b ≡ false) → v ≡ Accepted
+  passed Accepted a b h u = refl
+  passed (Refused r) a b h u = absurd (true≢false (ap is-refused h ∙ u))
+
+  planned-map : (a : Answer) → plan-by pl n m grid zeros limit ≡ a → is-refused a ≡ false
+      → Accepted-map n m (all-long (grid ∷ zeros ∷ [])) grid
+  unfolding plan-by
+  planned-map a h u = map-accepted n m (all-long (grid ∷ zeros ∷ [])) grid (passed _ _ a h u)
+
+  accepted-short : (a : Answer) → plan-by pl n m grid zeros limit ≡ a → is-refused a ≡ false
+      → length (head-line head ++ answer-lines n m grid (left-by-planner pl head grid) a) ≤ 32768
+  accepted-short a h u =
+      let x = planned-map a h u in
+      let d = left-by-planner pl head grid in
+      omega (
+        arith,
+        length-append (head-line head) (answer-lines n m grid d a),
+        head-short head,
+        answer-short n m grid d (x .sizes) (eqb-true _ _ (and-true (long grid) _ (x .lengths) .0)) a,
+      )
+
+  map-short : (a : Answer) → plan-by pl n m grid zeros limit ≡ a → length (map-lines pl head grid a) ≤ 32768
+  unfolding map-lines
+  map-short (answer.Planned o) h = accepted-short (answer.Planned o) h refl
+  map-short (answer.Decided d) h = accepted-short (answer.Decided d) h refl
+  map-short (answer.Refused r) h = omega (arith, refusal-short r)
 
 file-short : (pl : Planner) (x : FileRead × List ℕ) → length (file-lines pl x) ≤ 32768
 unfolding file-lines

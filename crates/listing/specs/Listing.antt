@@ -1,5 +1,5 @@
--- Document 01, "The bench program": the bytes of the listing of a map file, from the bytes of the file alone; with either
--- planner (document 02, T-05). Assumes nothing.
+-- Document 01, "The bench program": the bytes of the listing of a map file, from the bytes of the file alone; with any of
+-- the planners (document 02, T-05, and the exact one). Assumes nothing.
 use Prim.Native.Nat.{ℕ, zero, suc, _+_, _/_, _%_, _≤_}
 use mathlib.Core.Path.{_≡_}
 use mathlib.Core.Bool.{cond}
@@ -11,10 +11,11 @@ use Rattle.array.specs.Buffer.{zeros}
 use Rattle.array.specs.Map.{inner-faulty}
 use Rattle.array.specs.declared.Refusal.{Refusal}
 use Rattle.paths.specs.Path.{by-direction}
-use Rattle.trials.specs.Search.{outcome, directions-written}
 use Rattle.trials.specs.declared.Outcome.{Outcome}
 use Rattle.trials.specs.declared.Outcome.the-variants.{Repaired, Beyond, Spent}
-use Rattle.repair.specs.Operations.{kept-by, left-by, planned-by, plan-by, directions-by}
+use Rattle.exact.specs.declared.Decision.{Decision}
+use Rattle.exact.specs.declared.Decision.the-variants as decision
+use Rattle.repair.specs.Operations.{kept-by, left-by, planned-by, answer-by, buffer-by, plan-by, directions-by}
 use Rattle.repair.specs.Operations.{places-after, across-after, down-after}
 use Rattle.repair.specs.declared.Planner.{Planner}
 use Rattle.repair.specs.declared.Answer.{Answer}
@@ -129,6 +130,11 @@ outcome-lines n m grid directions (Repaired t) =
 outcome-lines n m grid directions (Beyond t) = line beyond-word (t ∷ []) newline
 outcome-lines n m grid directions (Spent limit) = line spent-word (limit ∷ []) newline
 
+-- the same of the exact planner: "repaired" with what follows, or "beyond", without a count
+unfoldable pub decision-lines : ℕ → ℕ → List ℕ → List ℕ → Decision → List ℕ
+decision-lines n m grid directions decision.Repaired = (repaired-word ++ newline) ++ repair-lines n m grid directions
+decision-lines n m grid directions decision.Beyond = beyond-word ++ newline
+
 -- "refused", number, place
 unfoldable pub refusal-line : Refusal → List ℕ
 refusal-line r = line refused-word (r .number ∷ r .place ∷ []) newline
@@ -141,11 +147,22 @@ head-line head = line map-word (head .rows ∷ head .columns ∷ head .count ∷
 abbrev pub limit : ℕ
 limit = 1000000
 
+-- the lines after the first, by a planner's answer and the directions that it leaves; none for a refusal
+abbrev pub answer-lines : ℕ → ℕ → List ℕ → List ℕ → Answer → List ℕ
+answer-lines n m grid directions (answer.Planned o) = outcome-lines n m grid directions o
+answer-lines n m grid directions (answer.Decided d) = decision-lines n m grid directions d
+answer-lines n m grid directions (answer.Refused r) = []
+
+-- the directions that a planner leaves in a blank buffer
+abbrev pub left-by-planner : Planner → Head → List ℕ → List ℕ
+left-by-planner pl head grid = directions-by pl (head .rows) (head .columns) grid zeros limit
+
 -- a map that was read, by the planner's answer; blank buffers are lent
 unfoldable pub map-lines : Planner → Head → List ℕ → Answer → List ℕ
 map-lines pl head grid (answer.Planned o) =
-    head-line head
-    ++ outcome-lines (head .rows) (head .columns) grid (directions-by pl (head .rows) (head .columns) grid zeros limit) o
+    head-line head ++ answer-lines (head .rows) (head .columns) grid (left-by-planner pl head grid) (answer.Planned o)
+map-lines pl head grid (answer.Decided d) =
+    head-line head ++ answer-lines (head .rows) (head .columns) grid (left-by-planner pl head grid) (answer.Decided d)
 map-lines pl head grid (answer.Refused r) = refusal-line r
 
 -- the same with what the planner does answer
@@ -161,7 +178,7 @@ file-lines pl (reader.Refused r, grid) = refusal-line r
 unfoldable pub listing : Planner → List ℕ → List ℕ
 listing pl s = file-lines pl (read-map s zeros)
 
--- what `report` and `report_quickly` answer, with the buffer afterwards: the listing's length, the bytes after it kept;
+-- what `report`, `report_quickly` and `report_exactly` answer, with the buffer afterwards: the listing's length, the bytes after it kept;
 -- 14 where there is no room
 abbrev pub reported : Planner → List ℕ → List ℕ → FileWritten × List ℕ
 reported pl s out = put (room-test (listing pl s) out) (listing pl s) out
@@ -170,14 +187,14 @@ reported pl s out = put (room-test (listing pl s) out) (listing pl s) out
 abbrev pub Listing-fits : Type 0
 Listing-fits = (pl : Planner) (s : List ℕ) → length (listing pl s) ≤ 32768
 
--- the lines of a map by the trials that its planner makes
+-- the lines of a map by the trials of its planner, or by those that the exact planner decides without making them
 abbrev pub trial-lines : Planner → Head → List ℕ → List ℕ
 trial-lines pl head grid =
     let n = head .rows in
     let m = head .columns in
-    outcome-lines n m grid
-    (directions-written limit (kept-by pl n m grid) (left-by pl n m grid) (planned-by pl n m grid))
-    (outcome limit (planned-by pl n m grid))
+    answer-lines n m grid
+    (buffer-by pl limit (kept-by pl n m grid) (left-by pl n m grid) (planned-by pl n m grid))
+    (answer-by pl limit (planned-by pl n m grid))
 
 -- the statement that a map that was read is planned, never refused: its lines are the first one and those of the trials' outcome
 abbrev pub Maps-listed : Type 0

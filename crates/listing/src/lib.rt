@@ -1,5 +1,6 @@
 // The listing of a map file, as the bench program prints it: the map, the outcome, and after a repair the paths, the cells and the switches.
 use array::Refusal;
+use exact::Decision;
 use readers::FileRead;
 use readers::Head;
 use repair::Answer;
@@ -12,11 +13,11 @@ ghost use mathlib.Core.Bool.{cond};
 ghost use lib.ListN.{length};
 ghost use Rattle.array.specs.Buffer.{zeros};
 ghost use Rattle.array.specs.Map.{inner-faulty};
-ghost use Rattle.repair.specs.declared.Planner.the-variants.{Trials, Quick};
+ghost use Rattle.repair.specs.declared.Planner.the-variants.{Trials, Quick, Exact};
 ghost use Rattle.writers.specs.Writing.{told};
 ghost use Rattle.listing.specs.Listing.{along, digits, field, line, direction-letter, path-line, cell-line};
 ghost use Rattle.listing.specs.Listing.{fault-bytes, seat-bytes, letter-bytes, switch-line, plan-lines};
-ghost use Rattle.listing.specs.Listing.{repair-lines, outcome-lines, refusal-line, head-line, planned-lines};
+ghost use Rattle.listing.specs.Listing.{repair-lines, outcome-lines, decision-lines, refusal-line, head-line, planned-lines};
 ghost use Rattle.listing.specs.Listing.{listing, reported};
 ghost use Rattle.formats.specs.Parts.{Room, Wrote};
 ghost use Rattle.listing.specs.Parts.{Long, Lent, Fronts};
@@ -274,6 +275,31 @@ fn write_outcome(
     }
 }
 
+// Inner part: writes what the exact planner decides and what follows it, and gives the offset after them.
+fn write_decision(
+    out: &mut [u8],
+    at: usize,
+    d: Decision,
+    n: usize,
+    m: usize,
+    grid: &[u8],
+    directions: &[u8],
+    places: &mut [u16],
+    across: &mut [u8],
+    down: &mut [u8],
+) -> usize
+    requires { ⌜ Lent (now grid) (now directions) (now places) (now across) (now down) × Room (now out) at (decision-lines n m (now grid) (now directions) d) ⌝ }
+    ensures { λ r. ⌜ Wrote (now (out .entry)) at (decision-lines n m (now (grid .entry)) (now (directions .entry)) d) r (now (out .exit)) ⌝ }
+{
+    match d {
+        Decision::Repaired => {
+            let second = write_bytes(out, at, b"repaired\n");
+            write_repair(out, second, n, m, grid, directions, places, across, down)
+        }
+        Decision::Beyond => write_bytes(out, at, b"beyond\n"),
+    }
+}
+
 // Inner part: writes the line of a refusal, and gives the offset after it.
 fn write_refusal(out: &mut [u8], e: Refusal) -> usize
     requires { ⌜ Room (now out) 0 (refusal-line e) ⌝ }
@@ -313,6 +339,10 @@ fn write_map(
         Answer::Planned(o) => {
             let second = write_head(out, head);
             write_outcome(out, second, o, n, m, grid, directions, places, across, down)
+        }
+        Answer::Decided(d) => {
+            let second = write_head(out, head);
+            write_decision(out, second, d, n, m, grid, directions, places, across, down)
         }
         Answer::Refused(r) => write_refusal(out, r),
     }
@@ -411,4 +441,12 @@ pub fn report_quickly(s: &[u8], out: &mut [u8]) -> FileWritten
         × (now (out .exit) ≡ reported Quick (now (s .entry)) (now (out .entry)) .1) ⌝ }
 {
     report_by(Planner::Quick, s, out)
+}
+
+// The same with the exact planner, whose second line is `repaired` or `beyond` without a count.
+pub fn report_exactly(s: &[u8], out: &mut [u8]) -> FileWritten
+    ensures { λ r. ⌜ (told r ≡ told (reported Exact (now (s .entry)) (now (out .entry)) .0))
+        × (now (out .exit) ≡ reported Exact (now (s .entry)) (now (out .entry)) .1) ⌝ }
+{
+    report_by(Planner::Exact, s, out)
 }

@@ -6,7 +6,7 @@ use mathlib.Core.List.{List}
 use Prim.Native.Nat.{ℕ}
 use Rattle.writers.proofs.Runs.{splits-all, run-start, run-room, run-step, run-end}
 use Rattle.listing.specs.Listing.{planned-lines}
-use Rattle.listing.proofs.Cases.{map-planned, map-refused}
+use Rattle.listing.proofs.Cases.{map-planned, map-decided, map-refused}
 use borrow.Author.Needs.{needs}
 use Rattle.listing.proofs.write_map.Statement.{statement}
 use Rattle.listing.proofs.write_map.Tie as tie
@@ -47,6 +47,41 @@ write-outcome-requires c κs =
     let l = s .pre .1 in
     let r = run-start (now (a .out)) 0 (lines s) (s .pre .2) in
     let t = map-planned (a .planner) (a .head) (now (a .grid)) (q .plan-by .result) (s .pre .0) (p .0) (p .1) o in (
+      record {
+        grid-long = l .grid-long;
+        directions-long = q .plan-by .kept .1 .1 .1 .1 .0 ∙ l .directions-long;
+        places-blank = l .places-blank;
+        across-blank = l .across-blank;
+        down-blank = l .down-blank;
+      },
+      run-room (run-step r t (w .0) (w .1)) (splits-all _),
+    )
+
+enum-known-d : tie.Need-enum-known-d
+enum-known-d c = search needs
+
+write-head-requires-2 : tie.Need-write-head-requires-2
+write-head-requires-2 c κs =
+    let q = c .before .before .before .before .before .before in
+    let s = start q in
+    let a = s .args in
+    let p = q .plan-by .ensures in
+    let o = c .before .before .d .given .1 in
+    run-room (run-start (now (a .out)) 0 (lines s) (s .pre .2))
+    (map-decided (a .planner) (a .head) (now (a .grid)) (q .plan-by .result) (s .pre .0) (p .0) (p .1) o)
+
+write-decision-requires : tie.Need-write-decision-requires
+write-decision-requires c κs =
+    let h = c .before .before .before .before .before .before .before in
+    let o = h .before .before .before .d .given .1 in
+    let q = h .before .before .before .before .before .before .before in
+    let s = start q in
+    let a = s .args in
+    let p = q .plan-by .ensures in
+    let w = h .write-head2 .ensures in
+    let l = s .pre .1 in
+    let r = run-start (now (a .out)) 0 (lines s) (s .pre .2) in
+    let t = map-decided (a .planner) (a .head) (now (a .grid)) (q .plan-by .result) (s .pre .0) (p .0) (p .1) o in (
       record {
         grid-long = l .grid-long;
         directions-long = q .plan-by .kept .1 .1 .1 .1 .0 ∙ l .directions-long;
@@ -105,8 +140,38 @@ same-length-6 c = search needs
 same-length-7 : tie.Need-same-length-7
 same-length-7 c = search needs
 
+same-length-8 : tie.Need-same-length-8
+same-length-8 c = search needs
+
+same-length-9 : tie.Need-same-length-9
+same-length-9 c = search needs
+
+same-length-10 : tie.Need-same-length-10
+same-length-10 c = search needs
+
 returns-2 : tie.Need-returns-2
 returns-2 c =
+    let e = c .before .before .before .before .before .before .before .before in
+    let h = e .before .before .before .before .before .before .before .before in
+    let o = h .before .before .before .d .given .1 in
+    let q = h .before .before .before .before .before .before .before in
+    let s = start q in
+    let a = s .args in
+    let p = q .plan-by .ensures in
+    let w = h .write-head2 .ensures in
+    let x = e .write-decision .ensures in
+    let r = run-start (now (a .out)) 0 (lines s) (s .pre .2) in
+    let t = map-decided (a .planner) (a .head) (now (a .grid)) (q .plan-by .result) (s .pre .0) (p .0) (p .1) o in
+    run-end (run-step (run-step r t (w .0) (w .1)) (splits-all _) (x .0) (x .1)) refl
+
+same-length-11 : tie.Need-same-length-11
+same-length-11 c = search needs
+
+same-length-12 : tie.Need-same-length-12
+same-length-12 c = search needs
+
+returns-3 : tie.Need-returns-3
+returns-3 c =
     let q = c .before .before .before .before .before .before .before .before .before in
     let s = start q in
     let a = s .args in
@@ -123,6 +188,9 @@ write-map-spec =
     enum-known-o
     write-head-requires
     write-outcome-requires
+    enum-known-d
+    write-head-requires-2
+    write-decision-requires
     enum-known-r
     write-refusal-requires
     same-length
@@ -133,4 +201,10 @@ write-map-spec =
     returns
     same-length-6
     same-length-7
-    returns-2)
+    same-length-8
+    same-length-9
+    same-length-10
+    returns-2
+    same-length-11
+    same-length-12
+    returns-3)
