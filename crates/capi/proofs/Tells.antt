@@ -13,13 +13,21 @@ use Rattle.array.specs.declared.Verdict.the-variants.{Accepted}
 use Rattle.array.proofs.Numbered.{map-numbered}
 use Rattle.plans.proofs.Numbered.{plan-numbered}
 use Rattle.lists.proofs.Numbered.{fault-list-numbered}
+use Rattle.trials.specs.Trials.{Search}
+use Rattle.trials.specs.Search.{outcome}
+use Rattle.trials.specs.declared.Outcome.{Outcome}
 use Rattle.trials.specs.declared.Outcome.the-variants.{Repaired, Beyond, Spent}
+use Rattle.exact.specs.Exact.{decided}
+use Rattle.exact.specs.declared.Decision.{Decision}
+use Rattle.exact.specs.declared.Decision.the-variants as decision
 use Rattle.track.specs.declared.Followed.{Followed}
-use Rattle.repair.specs.Operations.{place-cells, route-switches}
+use Rattle.repair.specs.Operations.{is-repaired, place-cells, route-switches}
 use Rattle.repair.specs.Demand3.{Given, answer, planned-directions}
+use Rattle.repair.specs.declared.Planner.{Planner}
+use Rattle.repair.specs.declared.Planner.the-variants.{Trials, Quick, Exact}
 use Rattle.repair.specs.declared.Answer.{Answer}
 use Rattle.repair.proofs.Numbered.{plan-numbered-by, follow-link-numbered}
-use Rattle.runs.specs.Run.{run-test, unless-refused, run-answer, is-repaired, run-links, links-found}
+use Rattle.runs.specs.Run.{run-test, run-answer, run-links, links-found}
 use Rattle.formats.specs.declared.Kind.the-variants.{Map, Plan}
 use Rattle.formats.specs.declared.Number.{Number}
 use Rattle.formats.proofs.Numbered.{number-numbered}
@@ -28,8 +36,8 @@ use Rattle.readers.proofs.Numbered.{file-numbered}
 use Rattle.writers.specs.declared.FileWritten.{FileWritten}
 use Rattle.writers.proofs.Numbered.{write-numbered, text-numbered}
 use Rattle.listing.specs.Listing.{listing}
-use Rattle.capi.specs.Flat.{flat-verdict, flat-outcome, flat-answer, run-of, flat-run, flat-link, flat-number, flat-head, flat-length}
-use Rattle.capi.specs.Tells.{by-number, verdict-tells, link-tells, number-tells, head-tells, length-tells, Kept, Answer-kept, Nothing-lost}
+use Rattle.capi.specs.Flat.{flat-verdict, flat-outcome, flat-decision, flat-answer, run-of, flat-run, flat-link, flat-number, flat-head, flat-length}
+use Rattle.capi.specs.Tells.{by-number, verdict-tells, link-tells, number-tells, head-tells, length-tells, plan-tells, Kept, Answer-kept, Nothing-lost}
 use Rattle.array.specs.Tests as tests
 use Rattle.array.specs.declared.Verdict.the-variants as verdict
 use Rattle.track.specs.Follower as links
@@ -55,12 +63,43 @@ unfolding flat-verdict
 verdict-kept Accepted h = record { numbered = h; same = refl }
 verdict-kept (verdict.Refused r) h = record { numbered = h; same = refused r [] h }
 
-answer-kept : (k : ℕ) (a : Answer) → Numbered (operations.told a) → Answer-kept k a
-unfolding flat-answer flat-outcome
-answer-kept k (answers.Planned (Repaired t)) h = record { numbered = h; same = refl }
-answer-kept k (answers.Planned (Beyond t)) h = record { numbered = h; same = refl }
-answer-kept k (answers.Planned (Spent t)) h = record { numbered = h; same = refl }
-answer-kept k (answers.Refused r) h = record { numbered = h; same = refused r (0 ∷ 0 ∷ []) h }
+-- the values that a caller reads, of a planner's own kind of answer
+outcome-same : (o : Outcome) (k : ℕ) → plan-tells Trials (flat-outcome o k) ≡ operations.outcome-told o
+unfolding flat-outcome
+outcome-same (Repaired t) k = refl
+outcome-same (Beyond t) k = refl
+outcome-same (Spent t) k = refl
+
+decision-same : (d : Decision) (k : ℕ) → plan-tells Exact (flat-decision d k) ≡ operations.decision-told d
+unfolding flat-decision
+decision-same decision.Repaired k = refl
+decision-same decision.Beyond k = refl
+
+answer-same : (pl : Planner) (limit : ℕ) (s : Search) (k : ℕ)
+    → plan-tells pl (flat-answer (operations.answer-by pl limit s) k) ≡ operations.told (operations.answer-by pl limit s)
+unfolding flat-answer
+answer-same Trials limit s k = outcome-same (outcome limit s) k
+answer-same Quick limit s k = outcome-same (outcome limit s) k
+answer-same Exact limit s k = decision-same (decided s) k
+
+refused-same : (pl : Planner) (r : Refusal) (k : ℕ) → Numbered (refuses-as r)
+    → plan-tells pl (flat-answer (answers.Refused r) k) ≡ refuses-as r
+unfolding flat-answer
+refused-same pl r k h = refused r _ h
+
+after-same : (pl : Planner) (v : Verdict) (a : Answer) (k : ℕ) → Numbered (tests.told v)
+    → plan-tells pl (flat-answer a k) ≡ operations.told a
+    → plan-tells pl (flat-answer (operations.answer-after v a) k) ≡ operations.told (operations.answer-after v a)
+after-same pl Accepted a k h e = e
+after-same pl (verdict.Refused r) a k h e = refused-same pl r k h
+
+planner-same : (pl : Planner) (n m : ℕ) (grid directions : List ℕ) (limit k : ℕ)
+    → plan-tells pl (flat-answer (operations.plan-by pl n m grid directions limit) k)
+    ≡ operations.told (operations.plan-by pl n m grid directions limit)
+unfolding operations.plan-by
+planner-same pl n m grid directions limit k =
+    after-same pl (operations.planner-test n m grid directions) _ k (map-numbered n m _ grid .numbered)
+    (answer-same pl limit (operations.planned-by pl n m grid) k)
 
 link-kept : (f : Followed) → Numbered (links.told f) → Kept links.told flat-link link-tells f
 unfolding flat-link
@@ -94,24 +133,32 @@ switches-kept : (n m : ℕ) (grid directions across down : List ℕ)
 unfolding route-switches
 switches-kept n m grid directions across down = verdict-kept _ (plan-numbered n m _ grid directions .numbered)
 
-unless-numbered : (v : Verdict) (a : Answer) → Numbered (tests.told v) → Numbered (operations.told a)
-    → Numbered (operations.told (unless-refused v a))
-unless-numbered (verdict.Refused r) a h n = h
-unless-numbered Accepted a h n = n
+after-numbered : (v : Verdict) (a : Answer) → Numbered (tests.told v) → Numbered (operations.told a)
+    → Numbered (operations.told (operations.answer-after v a))
+after-numbered (verdict.Refused r) a h n = h
+after-numbered Accepted a h n = n
 
-run-kept : (g : Given) → Answer-kept (run-links g) (run-answer g)
+run-kept : (g : Given) → Answer-kept (g .planner) (run-links g) (run-answer g)
 unfolding run-answer
 run-kept g =
-    answer-kept (run-links g) (run-answer g)
-    (unless-numbered (run-test g) (answer g) (map-numbered (g .n) (g .m) _ (g .grid) .numbered)
-    (plan-numbered-by (g .planner) (g .n) (g .m) (g .grid) (g .directions) (g .limit) .numbered))
+    let t = map-numbered (g .n) (g .m) _ (g .grid) .numbered in
+    record {
+      numbered =
+          after-numbered (run-test g) (answer g) t
+          (plan-numbered-by (g .planner) (g .n) (g .m) (g .grid) (g .directions) (g .limit) .numbered);
+      same =
+          after-same (g .planner) (run-test g) (answer g) (run-links g) t
+          (planner-same (g .planner) (g .n) (g .m) (g .grid) (g .directions) (g .limit) (run-links g));
+    }
 
 -- a run that is refused has found no links
 links-kept : (a : Answer) (k : ℕ) → flat-answer a (cond (is-repaired a) k 0) .links ≡ cond (is-repaired a) k 0
-unfolding flat-answer flat-outcome
+unfolding flat-answer flat-outcome flat-decision
 links-kept (answers.Planned (Repaired t)) k = refl
 links-kept (answers.Planned (Beyond t)) k = refl
 links-kept (answers.Planned (Spent t)) k = refl
+links-kept (answers.Decided decision.Repaired) k = refl
+links-kept (answers.Decided decision.Beyond) k = refl
 links-kept (answers.Refused r) k = refl
 
 run-links-kept : (g : Given) → flat-run (run-of g) .links ≡ run-links g
@@ -127,7 +174,10 @@ nothing-lost =
       by-place-cells = places-kept;
       by-route-switches = switches-kept;
       by-planner = λ pl n m grid directions limit.
-          answer-kept 0 _ (plan-numbered-by pl n m grid directions limit .numbered);
+          record {
+            numbered = plan-numbered-by pl n m grid directions limit .numbered;
+            same = planner-same pl n m grid directions limit 0;
+          };
       by-follow-link = λ w cell side. link-kept _ (follow-link-numbered w cell side .numbered);
       by-run = run-kept;
       links-of-run = run-links-kept;

@@ -6,6 +6,8 @@ use mathlib.Core.List.{List}
 use Rattle.array.specs.declared.Verdict.{Verdict}
 use Rattle.trials.specs.declared.Outcome.{Outcome}
 use Rattle.trials.specs.declared.Outcome.the-variants.{Repaired, Beyond, Spent}
+use Rattle.exact.specs.declared.Decision.{Decision}
+use Rattle.exact.specs.declared.Decision.the-variants as decision
 use Rattle.track.specs.declared.Followed.{Followed}
 use Rattle.repair.specs.declared.Answer.{Answer}
 use Rattle.repair.specs.Demand3.{Given}
@@ -42,9 +44,15 @@ flat-outcome (Repaired t) links = planned-as 1 t links
 flat-outcome (Beyond t) links = planned-as 2 t links
 flat-outcome (Spent limit) links = planned-as 3 limit links
 
+-- what the exact planner decides, without a count
+unfoldable pub flat-decision : Decision → ℕ → ChantsprucePlan
+flat-decision decision.Repaired links = planned-as 1 0 links
+flat-decision decision.Beyond links = planned-as 2 0 links
+
 -- the planner's answer, with a count of links
 unfoldable pub flat-answer : Answer → ℕ → ChantsprucePlan
 flat-answer (answer.Planned o) links = flat-outcome o links
+flat-answer (answer.Decided d) links = flat-decision d links
 flat-answer (answer.Refused r) links =
     record { number = r .number; place = r .place; second = r .second; outcome = 0; count = 0; links = 0 }
 

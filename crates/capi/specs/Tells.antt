@@ -14,6 +14,7 @@ use Rattle.track.specs.Ports.{Wafer}
 use Rattle.repair.specs.Operations.{plan-by, place-cells, route-switches, follow-link}
 use Rattle.repair.specs.Demand3.{Given}
 use Rattle.repair.specs.declared.Planner.{Planner}
+use Rattle.repair.specs.declared.Planner.the-variants.{Trials, Quick, Exact}
 use Rattle.repair.specs.declared.Answer.{Answer}
 use Rattle.runs.specs.Run.{run-answer, run-links}
 use Rattle.formats.specs.Number.{number-at}
@@ -42,9 +43,14 @@ by-number k p q values = cond (eqb k 0) (accepts values) (refuses k p q)
 abbrev pub verdict-tells : ChantspruceVerdict → Told
 verdict-tells r = by-number (r .number) (r .place) (r .second) []
 
--- outcomes count from 1 in the struct and from 0 in what an answer tells
-abbrev pub plan-tells : ChantsprucePlan → Told
-plan-tells r = by-number (r .number) (r .place) (r .second) ((r .outcome - 1) ∷ r .count ∷ [])
+-- outcomes count from 1 in the struct and from 0 in what an answer tells; from the exact planner a caller reads no count
+abbrev pub values-by : Planner → ChantsprucePlan → List ℕ
+values-by Trials r = (r .outcome - 1) ∷ r .count ∷ []
+values-by Quick r = (r .outcome - 1) ∷ r .count ∷ []
+values-by Exact r = (r .outcome - 1) ∷ []
+
+abbrev pub plan-tells : Planner → ChantsprucePlan → Told
+plan-tells pl r = by-number (r .number) (r .place) (r .second) (values-by pl r)
 
 abbrev pub link-tells : ChantspruceLink → Told
 link-tells r = by-number (r .number) (r .place) (r .second) (r .position ∷ r .port ∷ r .switches ∷ [])
@@ -64,8 +70,8 @@ pub record Kept {A B : Type 0} (told : A → Told) (flat : A → B) (tells : B �
   pub same : tells (flat x) ≡ told x
 
 -- of a planner's answer, whatever count of links is returned beside it
-abbrev pub Answer-kept : ℕ → Answer → Type 0
-Answer-kept k a = Kept operations.told (λ (x : Answer). flat-answer x k) plan-tells a
+abbrev pub Answer-kept : Planner → ℕ → Answer → Type 0
+Answer-kept pl k a = Kept operations.told (λ (x : Answer). flat-answer x k) (plan-tells pl) a
 
 pub record Nothing-lost : Type 0 where
   pub by-check-plan : (n m : ℕ) (grid directions : List ℕ)
@@ -77,9 +83,9 @@ pub record Nothing-lost : Type 0 where
   pub by-route-switches : (n m : ℕ) (grid directions across down : List ℕ)
       → Kept tests.told flat-verdict verdict-tells (route-switches n m grid directions across down)
   pub by-planner : (pl : Planner) (n m : ℕ) (grid directions : List ℕ) (limit : ℕ)
-      → Answer-kept 0 (plan-by pl n m grid directions limit)
+      → Answer-kept pl 0 (plan-by pl n m grid directions limit)
   pub by-follow-link : (w : Wafer) (cell side : ℕ) → Kept links.told flat-link link-tells (follow-link w cell side)
-  pub by-run : (g : Given) → Answer-kept (run-links g) (run-answer g)
+  pub by-run : (g : Given) → Answer-kept (g .planner) (run-links g) (run-answer g)
   pub links-of-run : (g : Given) → flat-run (run-of g) .links ≡ run-links g
   pub by-read-number : (s : List ℕ) (at : ℕ) → Kept numbers.told flat-number number-tells (number-at s at)
   pub by-read-map : (s grid : List ℕ) → Kept readers.told flat-head head-tells (read-map s grid .0)

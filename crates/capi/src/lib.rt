@@ -1,5 +1,6 @@
 // The operations for controllers in C and Rust (include/chantspruce.h): each makes one call and returns its answer as a flat struct.
 use array::Verdict;
+use exact::Decision;
 use formats::Number;
 use plans::Fault;
 use readers::FileRead;
@@ -14,14 +15,15 @@ ghost use Rattle.plans.specs.Check.{check-plan};
 ghost use Rattle.lists.specs.FaultList.{check-fault-list};
 ghost use Rattle.track.specs.Ports.{wafer};
 ghost use Rattle.repair.specs.Operations.{plan-by, directions-by, plan-repair, directions-after};
-ghost use Rattle.repair.specs.Operations.{plan-quickly, directions-quickly, place-cells, places-after};
+ghost use Rattle.repair.specs.Operations.{plan-quickly, directions-quickly, plan-exactly, directions-exactly};
+ghost use Rattle.repair.specs.Operations.{place-cells, places-after};
 ghost use Rattle.repair.specs.Operations.{route-switches, across-after, down-after, follow-link};
-ghost use Rattle.repair.specs.declared.Planner.the-variants.{Trials, Quick};
+ghost use Rattle.repair.specs.declared.Planner.the-variants.{Trials, Quick, Exact};
 ghost use Rattle.runs.specs.Run.{given};
 ghost use Rattle.readers.specs.Reading.{read-map, read-plan};
 ghost use Rattle.writers.specs.Writing.{write-map, write-plan};
 ghost use Rattle.listing.specs.Listing.{reported};
-ghost use Rattle.capi.specs.Flat.{flat-verdict, planned-as, flat-outcome, flat-answer, Ran-flat, flat-link};
+ghost use Rattle.capi.specs.Flat.{flat-verdict, planned-as, flat-outcome, flat-decision, flat-answer, Ran-flat, flat-link};
 ghost use Rattle.capi.specs.Flat.{flat-number, flat-head, flat-length};
 
 // Every struct begins with `number` (0 where the call is accepted, else the number of the refusal), `place` and `second`. The values
@@ -35,8 +37,8 @@ pub struct ChantspruceVerdict {
     pub second: usize,
 }
 
-// The planner and the run. `outcome` is 1 repaired, 2 beyond repair, 3 spent; `count` the trials, or the limit where it is spent; `links` how
-// many links a run found to reach their neighbour.
+// The planners and the runs. `outcome` is 1 repaired, 2 beyond repair, 3 spent; `count` the trials, or the limit where it is
+// spent, and 0 from the exact planner, which counts none; `links` how many links a run found to reach their neighbour.
 #[repr(C)]
 pub struct ChantsprucePlan {
     pub number: u32,
@@ -130,11 +132,21 @@ fn flat_outcome(o: Outcome, links: usize) -> ChantsprucePlan
     }
 }
 
+fn flat_decision(d: Decision, links: usize) -> ChantsprucePlan
+    ensures { λ r. ⌜ r ≡ flat-decision d links ⌝ }
+{
+    match d {
+        Decision::Repaired => planned(1, 0, links),
+        Decision::Beyond => planned(2, 0, links),
+    }
+}
+
 fn flat_answer(a: Answer, links: usize) -> ChantsprucePlan
     ensures { λ r. ⌜ r ≡ flat-answer a links ⌝ }
 {
     match a {
         Answer::Planned(o) => flat_outcome(o, links),
+        Answer::Decided(d) => flat_decision(d, links),
         Answer::Refused(e) => ChantsprucePlan {
             number: e.number as u32,
             place: e.place,
@@ -232,7 +244,7 @@ fn flat_length(a: FileWritten) -> ChantspruceLength
     }
 }
 
-// Inner parts: what is called with either planner.
+// Inner parts: what is called with any planner.
 
 fn plan_by(
     planner: Planner,
@@ -330,6 +342,19 @@ pub extern "C" fn chantspruce_plan_quickly(
         ≡ directions-quickly n m (now (grid .entry)) (now (directions .entry)) limit ⌝ }
 {
     plan_by(Planner::Quick, n, m, grid, directions, limit)
+}
+
+#[no_mangle]
+pub extern "C" fn chantspruce_plan_exactly(
+    n: usize,
+    m: usize,
+    grid: &[u8],
+    directions: &mut [u8],
+) -> ChantsprucePlan
+    ensures answer { λ r. ⌜ r ≡ flat-answer (plan-exactly n m (now (grid .entry)) (now (directions .entry))) 0 ⌝ }
+    ensures buffer { λ _. ⌜ now (directions .exit) ≡ directions-exactly n m (now (grid .entry)) (now (directions .entry)) ⌝ }
+{
+    plan_by(Planner::Exact, n, m, grid, directions, 0)
 }
 
 #[no_mangle]
@@ -437,6 +462,34 @@ pub extern "C" fn chantspruce_run_quickly(
 }
 
 #[no_mangle]
+pub extern "C" fn chantspruce_run_exactly(
+    n: usize,
+    m: usize,
+    grid: &[u8],
+    directions: &mut [u8],
+    places: &mut [u16],
+    across: &mut [u8],
+    down: &mut [u8],
+) -> ChantsprucePlan
+    ensures { λ r. ⌜ Ran-flat
+        (given Exact n m (now (grid .entry)) 0
+        (now (directions .entry)) (now (places .entry)) (now (across .entry)) (now (down .entry)))
+        r (now (directions .exit)) (now (places .exit)) (now (across .exit)) (now (down .exit)) ⌝ }
+{
+    run_by(
+        Planner::Exact,
+        n,
+        m,
+        grid,
+        0,
+        directions,
+        places,
+        across,
+        down,
+    )
+}
+
+#[no_mangle]
 pub extern "C" fn chantspruce_read_number(s: &[u8], at: usize) -> ChantspruceNumber
     ensures { λ r. ⌜ r ≡ flat-number (number-at (now (s .entry)) at) ⌝ }
 {
@@ -495,4 +548,12 @@ pub extern "C" fn chantspruce_report_quickly(s: &[u8], out: &mut [u8]) -> Chants
         × (now (out .exit) ≡ reported Quick (now (s .entry)) (now (out .entry)) .1) ⌝ }
 {
     report_by(Planner::Quick, s, out)
+}
+
+#[no_mangle]
+pub extern "C" fn chantspruce_report_exactly(s: &[u8], out: &mut [u8]) -> ChantspruceLength
+    ensures { λ r. ⌜ (r ≡ flat-length (reported Exact (now (s .entry)) (now (out .entry)) .0))
+        × (now (out .exit) ≡ reported Exact (now (s .entry)) (now (out .entry)) .1) ⌝ }
+{
+    report_by(Planner::Exact, s, out)
 }
