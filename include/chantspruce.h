@@ -21,7 +21,8 @@
  *     }
  *
  * In place of chantspruce_plan_repair a controller may call chantspruce_plan_quickly, which usually takes fewer trials.
- * Each of the two may decide a map on which the other is spent.
+ * Each of the two may decide a map on which the other is spent. chantspruce_plan_exactly takes no limit and decides
+ * every map.
  *
  * Link with libcapi.a (`rt staticlib capi` writes target/staticlib/libcapi.a, for x86-64 Linux; it needs memcpy and memset and nothing else).
  * tests/c/controller.c is a small program over it.
@@ -98,7 +99,7 @@
  *  - A buffer that a call writes to (a parameter that is no pointer to const) overlaps no other buffer of the same call. Two buffers
  *    that are only read may be the same.
  *  - While a call runs, nothing else writes to its buffers, and nothing else reads those that it writes to.
- *  - CHANTSPRUCE_STACK bytes of stack are free. (This is measured and not proved: each of the two listings takes less
+ *  - CHANTSPRUCE_STACK bytes of stack are free. (This is measured and not proved: each of the three listings takes less
  *    than 52 KiB, any other function less than 16 KiB.) Nothing is allocated and nothing is kept between calls, so that
  *    calls on different buffers may run at the same time.
  * Where one of these is not met the behaviour is undefined, and nothing is promised of the result.
@@ -174,7 +175,7 @@ enum {
     CHANTSPRUCE_NO_OUTCOME = 0, /* the call is refused */
     CHANTSPRUCE_REPAIRED = 1,   /* there is a plan, and it is written */
     CHANTSPRUCE_BEYOND = 2,     /* there is no plan at all */
-    CHANTSPRUCE_SPENT = 3       /* the limit of trials was reached before either was known */
+    CHANTSPRUCE_SPENT = 3       /* the limit of trials was reached before either was known; the exact planner takes none */
 };
 
 /* NUMBERS OF REFUSALS
@@ -255,7 +256,7 @@ typedef struct chantspruce_plan {
     size_t place;
     size_t second;
     uint32_t outcome; /* CHANTSPRUCE_REPAIRED, _BEYOND or _SPENT; CHANTSPRUCE_NO_OUTCOME where the call is refused */
-    uint32_t count;   /* the trials made; the limit where the outcome is _SPENT */
+    uint32_t count;   /* the trials made; the limit where the outcome is _SPENT; 0 from the exact planner, always */
     size_t links;     /* of a run after _REPAIRED: the links to a neighbour that were followed and found to reach it; else 0 */
 } chantspruce_plan;
 
@@ -319,14 +320,23 @@ chantspruce_plan chantspruce_plan_repair(size_t rows, size_t columns,
  * as above, beside the settled paths, and only these offers are trials. They are usually few, and none where all faults
  * are settled.
  * The outcome is _SPENT exactly where these trials are more than `limit`; else _BEYOND exactly where there is no plan;
- * else _REPAIRED. So, where neither planner is spent, both have the same outcome; and each may decide a map on which the
- * other is spent. The plan may be another one.
+ * else _REPAIRED. So, where neither this planner nor chantspruce_plan_repair is spent, both have the same outcome; and
+ * each may decide a map on which the other is spent. The plan may be another one.
  * After _BEYOND and _SPENT the whole of `directions` is 0.
  * Refuses 1, 2, 3, in this order. */
 chantspruce_plan chantspruce_plan_quickly(size_t rows, size_t columns,
                                           const uint8_t *grid, size_t grid_length,
                                           uint8_t *directions, size_t directions_length,
                                           uint32_t limit);
+
+/* The exact planner: it takes no limit and decides every map. The outcome is _BEYOND exactly where there is no plan, else
+ * _REPAIRED, and never _SPENT; `count` is 0, since no trials are counted. The plan is the first of all plans in the order
+ * of chantspruce_plan_repair. So, wherever that planner is not spent, both have the same outcome and write the same.
+ * After _BEYOND the whole of `directions` is 0.
+ * Refuses 1, 2, 3, in this order. */
+chantspruce_plan chantspruce_plan_exactly(size_t rows, size_t columns,
+                                          const uint8_t *grid, size_t grid_length,
+                                          uint8_t *directions, size_t directions_length);
 
 /* Writes to `places` which processor holds each cell, for a plan.
  * Refuses 1 to 7, in this order, 6 and 7 pair by pair: what it refuses is no plan for this grid. */
@@ -373,6 +383,15 @@ chantspruce_plan chantspruce_repair_run(size_t rows, size_t columns,
 chantspruce_plan chantspruce_run_quickly(size_t rows, size_t columns,
                                          const uint8_t *grid, size_t grid_length,
                                          uint32_t limit,
+                                         uint8_t *directions, size_t directions_length,
+                                         uint16_t *places, size_t places_length,
+                                         uint8_t *across, size_t across_length,
+                                         uint8_t *down, size_t down_length);
+
+/* The same run with chantspruce_plan_exactly, without a limit.
+ * Refuses 1, 2 (of any of the five buffers), 3, in this order. */
+chantspruce_plan chantspruce_run_exactly(size_t rows, size_t columns,
+                                         const uint8_t *grid, size_t grid_length,
                                          uint8_t *directions, size_t directions_length,
                                          uint16_t *places, size_t places_length,
                                          uint8_t *across, size_t across_length,
@@ -442,6 +461,12 @@ chantspruce_length chantspruce_report(const uint8_t *file, size_t file_length,
 /* The same listing, planned as by chantspruce_plan_quickly.
  * Refuses 14. */
 chantspruce_length chantspruce_report_quickly(const uint8_t *file, size_t file_length,
+                                              uint8_t *out, size_t out_length);
+
+/* The same listing, planned as by chantspruce_plan_exactly. After the first line of a map comes `repaired` or `beyond`
+ * with no number.
+ * Refuses 14. */
+chantspruce_length chantspruce_report_exactly(const uint8_t *file, size_t file_length,
                                               uint8_t *out, size_t out_length);
 
 /* The library is built for machines whose size_t has 64 bits and is aligned to 8 bytes. */

@@ -183,7 +183,7 @@ impl fmt::Display for Refusal {
 
 impl core::error::Error for Refusal {}
 
-/// What a planner found.
+/// What a planner found within a limit of trials.
 #[derive(Clone, Copy, Debug, PartialEq, Eq)]
 pub enum Outcome {
     /// There is a plan, and this many trials found it.
@@ -194,11 +194,20 @@ pub enum Outcome {
     Spent(u32),
 }
 
-/// What a whole run found.
+/// What the exact planner found: it is never spent, and counts no trials.
 #[derive(Clone, Copy, Debug, PartialEq, Eq)]
-pub struct Run {
-    /// The planner's outcome.
-    pub outcome: Outcome,
+pub enum Decision {
+    /// There is a plan.
+    Repaired,
+    /// There is no plan.
+    Beyond,
+}
+
+/// What a whole run found. With the exact planner it is a `Run<Decision>`.
+#[derive(Clone, Copy, Debug, PartialEq, Eq)]
+pub struct Run<T = Outcome> {
+    /// What the planner found.
+    pub outcome: T,
     /// How many links were found to reach their neighbour: all there are after `Repaired`, and 0 otherwise.
     pub links: usize,
 }
@@ -274,11 +283,17 @@ pub fn plan_repair(n: usize, m: usize, grid: &[u8], directions: &mut [u8], limit
 }
 
 /// The same by the quick planner. It settles outer faults first, each with its path straight outward, and tries
-/// directions only for the others; only these trials are counted, and they are usually few. Where neither planner is
+/// directions only for the others; only these trials are counted, and they are usually few. Where neither of the two is
 /// spent, both say `Beyond` of the same maps; each may decide a map on which the other is spent. The plan may be another
 /// one than that of [`plan_repair`].
 pub fn plan_quickly(n: usize, m: usize, grid: &[u8], directions: &mut [u8], limit: u32) -> Result<Outcome, Refusal> {
     flat::plan_quickly(n, m, grid, directions, limit).outcome()
+}
+
+/// The same by the exact planner, which takes no limit and decides every map. Where [`plan_repair`] is not spent, both
+/// say the same and fill `directions` with the same plan. Refusals: 1 to 3.
+pub fn plan_exactly(n: usize, m: usize, grid: &[u8], directions: &mut [u8]) -> Result<Decision, Refusal> {
+    flat::plan_exactly(n, m, grid, directions).decision()
 }
 
 /// Fills `places`: at the position of each cell the position of the processor that holds it, 0 elsewhere. Refusals: 1 to 7.
@@ -337,6 +352,20 @@ pub fn run_quickly(
     flat::run_quickly(n, m, grid, limit, directions, places, across, down).run()
 }
 
+/// The same with the exact planner, as [`plan_exactly`] plans.
+#[allow(clippy::too_many_arguments)]
+pub fn run_exactly(
+    n: usize,
+    m: usize,
+    grid: &[u8],
+    directions: &mut [u8],
+    places: &mut [u16],
+    across: &mut [u8],
+    down: &mut [u8],
+) -> Result<Run<Decision>, Refusal> {
+    flat::run_exactly(n, m, grid, directions, places, across, down).decided_run()
+}
+
 /// Reads the number at the offset `at` of `file`. Refusals: 8 and 9.
 pub fn read_number(file: &[u8], at: usize) -> Result<Number, Refusal> {
     flat::read_number(file, at).answer()
@@ -375,11 +404,16 @@ pub fn report_quickly(file: &[u8], out: &mut [u8]) -> Result<usize, Refusal> {
     flat::report_quickly(file, out).answer()
 }
 
+/// The same with the exact planner, as [`plan_exactly`] plans; no number follows `repaired` or `beyond`.
+pub fn report_exactly(file: &[u8], out: &mut [u8]) -> Result<usize, Refusal> {
+    flat::report_exactly(file, out).answer()
+}
+
 /// The functions of the same names with the library's own structs, as include/chantspruce.h declares them for C. A struct's `number` is 0 for an
 /// accepted call and else the number of the refusal; the fields after `second` are 0 for a refused one.
 #[allow(clippy::too_many_arguments)]
 pub mod flat {
-    use super::{Fault, Head, Link, Number, Outcome, Port, Reason, Refusal, Run};
+    use super::{Decision, Fault, Head, Link, Number, Outcome, Port, Reason, Refusal, Run};
 
     /// Of the plan checks, placement and routing.
     #[repr(C)]
@@ -391,7 +425,7 @@ pub mod flat {
     }
 
     /// Of the planners and the runs. `outcome` is 1 repaired, 2 beyond repair, 3 spent; `count` the trials, or the limit
-    /// for spent.
+    /// for spent. The exact planner is never spent, and its `count` is 0.
     #[repr(C)]
     #[derive(Clone, Copy, Debug, PartialEq, Eq)]
     pub struct Planned {
@@ -479,6 +513,21 @@ pub mod flat {
         pub fn run(self) -> Result<Run, Refusal> {
             self.outcome().map(|outcome| Run { outcome, links: self.links })
         }
+
+        /// The exact planner's answer.
+        pub fn decision(self) -> Result<Decision, Refusal> {
+            let decision = match self.outcome {
+                1 => Some(Decision::Repaired),
+                2 => Some(Decision::Beyond),
+                _ => None,
+            };
+            answer(self.number, self.place, self.second, decision)
+        }
+
+        /// The answer of a run with the exact planner.
+        pub fn decided_run(self) -> Result<Run<Decision>, Refusal> {
+            self.decision().map(|outcome| Run { outcome, links: self.links })
+        }
     }
 
     impl Followed {
@@ -549,6 +598,14 @@ pub mod flat {
             directions_len: usize,
             limit: u32,
         ) -> Planned;
+        fn chantspruce_plan_exactly(
+            n: usize,
+            m: usize,
+            grid: Bytes,
+            grid_len: usize,
+            directions: BytesMut,
+            directions_len: usize,
+        ) -> Planned;
         fn chantspruce_place_cells(
             n: usize,
             m: usize,
@@ -615,6 +672,20 @@ pub mod flat {
             down: BytesMut,
             down_len: usize,
         ) -> Planned;
+        fn chantspruce_run_exactly(
+            n: usize,
+            m: usize,
+            grid: Bytes,
+            grid_len: usize,
+            directions: BytesMut,
+            directions_len: usize,
+            places: WordsMut,
+            places_len: usize,
+            across: BytesMut,
+            across_len: usize,
+            down: BytesMut,
+            down_len: usize,
+        ) -> Planned;
         fn chantspruce_read_number(file: Bytes, file_len: usize, at: usize) -> NumberRead;
         fn chantspruce_read_map(file: Bytes, file_len: usize, grid: BytesMut, grid_len: usize) -> FileRead;
         fn chantspruce_read_plan(file: Bytes, file_len: usize, directions: BytesMut, directions_len: usize) -> FileRead;
@@ -622,6 +693,7 @@ pub mod flat {
         fn chantspruce_write_plan(n: usize, m: usize, directions: Bytes, directions_len: usize, out: BytesMut, out_len: usize) -> Written;
         fn chantspruce_report(file: Bytes, file_len: usize, out: BytesMut, out_len: usize) -> Written;
         fn chantspruce_report_quickly(file: Bytes, file_len: usize, out: BytesMut, out_len: usize) -> Written;
+        fn chantspruce_report_exactly(file: Bytes, file_len: usize, out: BytesMut, out_len: usize) -> Written;
     }
 
     // SAFETY, of each call below: the library reads and writes within the lengths that it is given and keeps no pointer; a slice is valid for
@@ -645,6 +717,11 @@ pub mod flat {
     pub fn plan_quickly(n: usize, m: usize, grid: &[u8], directions: &mut [u8], limit: u32) -> Planned {
         let (g, d) = (grid, directions);
         unsafe { chantspruce_plan_quickly(n, m, g.as_ptr(), g.len(), d.as_mut_ptr(), d.len(), limit) }
+    }
+
+    pub fn plan_exactly(n: usize, m: usize, grid: &[u8], directions: &mut [u8]) -> Planned {
+        let (g, d) = (grid, directions);
+        unsafe { chantspruce_plan_exactly(n, m, g.as_ptr(), g.len(), d.as_mut_ptr(), d.len()) }
     }
 
     pub fn place_cells(n: usize, m: usize, grid: &[u8], directions: &[u8], places: &mut [u16]) -> Verdict {
@@ -735,6 +812,34 @@ pub mod flat {
         }
     }
 
+    pub fn run_exactly(
+        n: usize,
+        m: usize,
+        grid: &[u8],
+        directions: &mut [u8],
+        places: &mut [u16],
+        across: &mut [u8],
+        down: &mut [u8],
+    ) -> Planned {
+        let (g, d, p, a, b) = (grid, directions, places, across, down);
+        unsafe {
+            chantspruce_run_exactly(
+                n,
+                m,
+                g.as_ptr(),
+                g.len(),
+                d.as_mut_ptr(),
+                d.len(),
+                p.as_mut_ptr(),
+                p.len(),
+                a.as_mut_ptr(),
+                a.len(),
+                b.as_mut_ptr(),
+                b.len(),
+            )
+        }
+    }
+
     pub fn read_number(file: &[u8], at: usize) -> NumberRead {
         unsafe { chantspruce_read_number(file.as_ptr(), file.len(), at) }
     }
@@ -761,5 +866,9 @@ pub mod flat {
 
     pub fn report_quickly(file: &[u8], out: &mut [u8]) -> Written {
         unsafe { chantspruce_report_quickly(file.as_ptr(), file.len(), out.as_mut_ptr(), out.len()) }
+    }
+
+    pub fn report_exactly(file: &[u8], out: &mut [u8]) -> Written {
+        unsafe { chantspruce_report_exactly(file.as_ptr(), file.len(), out.as_mut_ptr(), out.len()) }
     }
 }

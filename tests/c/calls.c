@@ -24,6 +24,10 @@ static const uint8_t dead_spare_file[] = {2, 2, 0, 1, 3, 2};
 /* 3 x 3 cells with faults at row 1, column 1 and at row 3, column 3, and with faulty spares outside of them: none is settled */
 static const uint8_t unsettled_map_file[] = {3, 3, 6, 0, 1, 1, 0, 1, 1, 3, 3, 3, 4, 4, 3};
 
+/* 2 x 2 cells with three faults, whose first plan is west, north, east; and one cell that is faulty, with every spare */
+static const uint8_t three_faults_file[] = {2, 2, 6, 0, 1, 1, 1, 1, 2, 2, 0, 2, 1, 3, 1};
+static const uint8_t no_plan_file[] = {1, 1, 5, 0, 1, 1, 0, 1, 1, 1, 2, 2, 1};
+
 static void print_first(const char *call, uint32_t number, size_t place, size_t second)
 {
     printf("%s: number %u, place %zu, second %zu", call, (unsigned)number, place, second);
@@ -156,6 +160,29 @@ static void call_quickly(void)
     print_bytes("write_plan", chantspruce_write_plan(3, 3, directions, B, out, sizeof out));
 }
 
+/* The exact planner, which takes no limit and counts no trials: the first map, one that takes chantspruce_plan_repair 13
+ * trials, and one without a plan. */
+static void call_exactly(void)
+{
+    print_head("read_map", chantspruce_read_map(map_file, sizeof map_file, grid, B));
+    print_plan("plan_exactly", chantspruce_plan_exactly(2, 2, grid, B, directions, B));
+    printf("the path of the fault has direction %u\n", (unsigned)directions[CHANTSPRUCE_POSITION(1, 1)]);
+    print_plan("plan_exactly", chantspruce_plan_exactly(2, 3, grid, B, directions, B));
+    print_plan("run_exactly", chantspruce_run_exactly(2, 2, grid, B, directions, B, places, B, across, B, down, B));
+    print_fault();
+    print_plan("run_exactly", chantspruce_run_exactly(2, 2, grid, B, directions, B, places, B, across, B, down, B - 1));
+    print_listing("report_exactly", chantspruce_report_exactly(map_file, sizeof map_file, out, sizeof out));
+    print_bytes("report_exactly", chantspruce_report_exactly(map_file, sizeof map_file, out, 10));
+    print_head("read_map", chantspruce_read_map(three_faults_file, sizeof three_faults_file, grid, B));
+    print_plan("plan_repair", chantspruce_plan_repair(2, 2, grid, B, directions, B, 12));
+    print_plan("plan_exactly", chantspruce_plan_exactly(2, 2, grid, B, directions, B));
+    print_bytes("write_plan", chantspruce_write_plan(2, 2, directions, B, out, sizeof out));
+    print_head("read_map", chantspruce_read_map(no_plan_file, sizeof no_plan_file, grid, B));
+    print_plan("run_exactly", chantspruce_run_exactly(1, 1, grid, B, directions, B, places, B, across, B, down, B));
+    print_bytes("write_plan", chantspruce_write_plan(1, 1, directions, B, out, sizeof out));
+    print_listing("report_exactly", chantspruce_report_exactly(no_plan_file, sizeof no_plan_file, out, sizeof out));
+}
+
 int main(void)
 {
     call_readers();
@@ -164,6 +191,7 @@ int main(void)
     call_checks();
     call_dead();
     call_quickly();
+    call_exactly();
     print_listing("report", chantspruce_report(map_file, sizeof map_file, out, sizeof out));
     print_bytes("report", chantspruce_report(map_file, sizeof map_file, out, 10));
     return 0;

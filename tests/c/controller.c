@@ -1,5 +1,5 @@
 /*
- * A field controller over the library: plans the repair of a map file, with the quick planner where the other one is spent,
+ * A field controller over the library: plans the repair of a map file, with the exact planner where the trials are spent,
  * checks the plan, follows every link, and prints the switches.
  *
  *     controller [FILE]
@@ -207,14 +207,42 @@ static int complete(wafer *w)
     return found == links ? DONE : BROKEN;
 }
 
-/* Plans a map, with the quick planner where the other one is spent. */
-static chantspruce_plan plan_map(wafer *w)
+/* Plans a map with the exact planner, which decides every map. */
+static int decide(wafer *w)
+{
+    chantspruce_plan plan = chantspruce_plan_exactly(w->rows, w->columns, w->grid, B, w->directions, B);
+    if (plan.number != CHANTSPRUCE_ACCEPTED)
+        return broken("the map", plan.number, plan.place);
+    switch (plan.outcome) {
+    case CHANTSPRUCE_REPAIRED:
+        puts("repaired");
+        return complete(w);
+    case CHANTSPRUCE_BEYOND:
+        puts("beyond repair: there is no plan");
+        return NOT_REPAIRED;
+    default:
+        printf("the exact planner has outcome %u\n", (unsigned)plan.outcome);
+        return BROKEN;
+    }
+}
+
+/* Plans a map, with the exact planner where the trials are spent. */
+static int plan_map(wafer *w)
 {
     chantspruce_plan plan = chantspruce_plan_repair(w->rows, w->columns, w->grid, B, w->directions, B, LIMIT);
-    if (plan.outcome != CHANTSPRUCE_SPENT)
-        return plan;
-    printf("not decided within %u trials; now the quick planner\n", (unsigned)plan.count);
-    return chantspruce_plan_quickly(w->rows, w->columns, w->grid, B, w->directions, B, LIMIT);
+    if (plan.number != CHANTSPRUCE_ACCEPTED)
+        return broken("the map", plan.number, plan.place);
+    switch (plan.outcome) {
+    case CHANTSPRUCE_REPAIRED:
+        printf("repaired, trials: %u\n", (unsigned)plan.count);
+        return complete(w);
+    case CHANTSPRUCE_BEYOND:
+        printf("beyond repair: there is no plan, trials: %u\n", (unsigned)plan.count);
+        return NOT_REPAIRED;
+    default:
+        printf("not decided within %u trials; now the exact planner\n", (unsigned)plan.count);
+        return decide(w);
+    }
 }
 
 /* Plans the repair of a map file. */
@@ -229,20 +257,7 @@ static int repair(const uint8_t *file, size_t length)
     w.rows = map.rows;
     w.columns = map.columns;
     printf("%zu x %zu cells, faults: %zu\n", map.rows, map.columns, map.count);
-    chantspruce_plan plan = plan_map(&w);
-    if (plan.number != CHANTSPRUCE_ACCEPTED)
-        return broken("the map", plan.number, plan.place);
-    switch (plan.outcome) {
-    case CHANTSPRUCE_REPAIRED:
-        printf("repaired, trials: %u\n", (unsigned)plan.count);
-        return complete(&w);
-    case CHANTSPRUCE_BEYOND:
-        printf("beyond repair: there is no plan, trials: %u\n", (unsigned)plan.count);
-        return NOT_REPAIRED;
-    default:
-        printf("spent: not decided within %u trials\n", (unsigned)plan.count);
-        return NOT_REPAIRED;
-    }
+    return plan_map(&w);
 }
 
 int main(int count, char **words)

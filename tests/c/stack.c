@@ -15,7 +15,8 @@ static uint16_t places[B];
 static uint8_t out[CHANTSPRUCE_LISTING_ROOM];
 static chantspruce_fault faults[3];
 
-/* 4 x 4 cells: of the three faults inside, the quick planner settles the first and takes three trials for the others */
+/* 4 x 4 cells: of the three faults inside, the quick planner settles the first and takes three trials for the others; the
+ * exact planner comes to try one direction of a fault that has two */
 static const uint8_t map_file[] = {4, 4, 7, 0, 1, 1, 4, 2, 0, 2, 1, 4, 3, 4, 5, 5, 3};
 static const uint8_t plan_file[] = {4, 4, 3, 1, 4, CHANTSPRUCE_EAST, 2, 1, CHANTSPRUCE_SOUTH, 4, 3, CHANTSPRUCE_NORTH};
 
@@ -63,6 +64,11 @@ static void call_plan_quickly(void)
     number = chantspruce_plan_quickly(4, 4, grid, B, directions, B, 1000).number;
 }
 
+static void call_plan_exactly(void)
+{
+    number = chantspruce_plan_exactly(4, 4, grid, B, directions, B).number;
+}
+
 static void call_check_plan(void)
 {
     number = chantspruce_check_plan(4, 4, grid, B, directions, B).number;
@@ -103,6 +109,11 @@ static void call_run_quickly(void)
     number = chantspruce_run_quickly(4, 4, grid, B, 1000, directions, B, places, B, across, B, down, B).number;
 }
 
+static void call_run_exactly(void)
+{
+    number = chantspruce_run_exactly(4, 4, grid, B, directions, B, places, B, across, B, down, B).number;
+}
+
 static void call_report(void)
 {
     number = chantspruce_report(map_file, sizeof map_file, out, sizeof out).number;
@@ -111,6 +122,11 @@ static void call_report(void)
 static void call_report_quickly(void)
 {
     number = chantspruce_report_quickly(map_file, sizeof map_file, out, sizeof out).number;
+}
+
+static void call_report_exactly(void)
+{
+    number = chantspruce_report_exactly(map_file, sizeof map_file, out, sizeof out).number;
 }
 
 /* what the header says of each function, in KiB */
@@ -126,6 +142,7 @@ static const struct {
     {"write_plan", call_write_plan, 16},
     {"plan_repair", call_plan_repair, 16},
     {"plan_quickly", call_plan_quickly, 16},
+    {"plan_exactly", call_plan_exactly, 16},
     {"check_plan", call_check_plan, 16},
     {"check_fault_list", call_check_fault_list, 16},
     {"place_cells", call_place_cells, 16},
@@ -133,8 +150,10 @@ static const struct {
     {"follow_link", call_follow_link, 16},
     {"repair_run", call_repair_run, 16},
     {"run_quickly", call_run_quickly, 16},
+    {"run_exactly", call_run_exactly, 16},
     {"report", call_report, 52},
     {"report_quickly", call_report_quickly, 52},
+    {"report_exactly", call_report_exactly, 52},
 };
 
 /* THE STACK */

@@ -1,7 +1,7 @@
-//! Document 01's worked maps, some with dead processors and some for the quick planner, on which the reference itself is
-//! tried before it judges the library.
+//! Document 01's worked maps, some with dead processors and some for the quick and the exact planner, on which the reference
+//! itself is tried before it judges the library.
 
-use crate::reference::{self, Cell, LENGTH, Outcome, Planner, position, search_all, settle_and_search};
+use crate::reference::{self, Cell, Decision, LENGTH, Outcome, Planner, decide, position, search_all, settle_and_search};
 
 /// Size, faults, dead processors, limit, the outcome, and the directions in fault order.
 struct Example(usize, usize, &'static [Cell], &'static [Cell], u32, Outcome, &'static str);
@@ -57,6 +57,53 @@ const QUICK_EXAMPLES: [Example; 16] = [
     Example(5, 9, &DEARER_QUICKLY, &[], 69, Outcome::Repaired(69), "NWSSSN"),
 ];
 
+const REPAIRED: Outcome = Outcome::Decided(Decision::Repaired);
+const BEYOND: Outcome = Outcome::Decided(Decision::Beyond);
+
+/// A 28 x 28 map on which both other planners are spent.
+const BOTH_SPENT: [Cell; 23] = [
+    (0, 12),
+    (1, 12),
+    (2, 19),
+    (8, 28),
+    (8, 29),
+    (9, 17),
+    (11, 2),
+    (12, 24),
+    (13, 25),
+    (14, 9),
+    (16, 4),
+    (17, 8),
+    (18, 21),
+    (20, 5),
+    (21, 14),
+    (22, 27),
+    (23, 18),
+    (24, 7),
+    (26, 22),
+    (27, 0),
+    (27, 1),
+    (28, 13),
+    (29, 13),
+];
+
+/// The same for the exact planner, whatever the limit is.
+const EXACT_EXAMPLES: [Example; 11] = [
+    Example(2, 2, &[], &[], 0, REPAIRED, ""),
+    Example(2, 2, &[(1, 1)], &[], 0, REPAIRED, "S"),
+    Example(2, 2, &[(1, 1), (1, 2), (2, 1), (2, 2)], &[], 0, REPAIRED, "NNSS"),
+    Example(2, 2, &[(0, 1), (1, 0), (1, 1), (1, 3), (2, 0), (2, 2), (2, 3), (3, 2)], &[], 0, BEYOND, ""),
+    // dead processors
+    Example(2, 2, &[(1, 1)], &[(2, 2)], 0, REPAIRED, "NN"),
+    Example(3, 3, &[], &[(2, 2)], 0, BEYOND, ""),
+    // one or two of the choices are plans
+    Example(2, 2, &[(0, 1), (1, 1), (1, 2), (2, 0), (2, 1), (3, 1)], &[], 0, REPAIRED, "WNE"),
+    Example(2, 3, &[(0, 1), (0, 3), (1, 0), (1, 1), (1, 2), (1, 3), (1, 4), (2, 2)], &[], 0, REPAIRED, "SNSS"),
+    Example(3, 3, &[(0, 2), (1, 2), (2, 0), (2, 1), (2, 3), (2, 4), (3, 2), (4, 2)], &[], 0, REPAIRED, "ENSW"),
+    Example(5, 9, &DEARER_QUICKLY, &[], 0, REPAIRED, "SWSSSN"),
+    Example(28, 28, &BOTH_SPENT, &[], 0, REPAIRED, "SNNNSNNSSSNSNNNSNSE"),
+];
+
 const FIRST_LISTING: &str = "\
 map 2 2 1
 repaired 1
@@ -98,6 +145,12 @@ impl Example {
     }
 }
 
+/// The exact planner's listings are without the number of trials.
+fn exact_listings_hold() -> bool {
+    reference::listing(decide, &[2, 2, 1, 1, 1]) == FIRST_LISTING.replace("repaired 1\n", "repaired\n")
+        && reference::listing(decide, &[3, 3, 0, 1, 2, 2]) == "map 3 3 1\nbeyond\n"
+}
+
 /// The across letters of the map that the sixth example plans.
 fn letters_hold() -> bool {
     let listing = reference::listing(search_all, &EXAMPLES[5].file());
@@ -120,10 +173,13 @@ fn refusals_hold() -> bool {
 pub fn failing() -> Option<String> {
     let failed = EXAMPLES.iter().position(|e| !e.holds(search_all)).map(|i| format!("example {i}"));
     let quick = QUICK_EXAMPLES.iter().position(|e| !e.holds(settle_and_search)).map(|i| format!("example {i} of the quick planner"));
+    let exact = EXACT_EXAMPLES.iter().position(|e| !e.holds(decide)).map(|i| format!("example {i} of the exact planner"));
     failed
         .or(quick)
+        .or(exact)
         .or((reference::listing(search_all, &[2, 2, 1, 1, 1]) != FIRST_LISTING).then(|| "the first listing".to_string()))
         .or((reference::listing(settle_and_search, &[2, 2, 1, 1, 1]) != QUICK_LISTING).then(|| "the quick listing".to_string()))
+        .or((!exact_listings_hold()).then(|| "the listings of the exact planner".to_string()))
         .or((!letters_hold()).then(|| "the across letters".to_string()))
         .or((!refusals_hold()).then(|| "the refusals".to_string()))
         .or((position((3, 2)) != 98).then(|| "positions".to_string()))

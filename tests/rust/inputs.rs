@@ -321,6 +321,24 @@ impl Maker {
         case
     }
 
+    /// A map with most paths open, since no two faults are in the same row or column, and with nothing to settle; some get dead
+    /// processors after that. Where it is large both other planners may take very many trials.
+    fn core(&mut self, array: Array) -> Case {
+        let mut case = self.healthy(array);
+        let mut columns: Vec<usize> = (1..=array.columns).collect();
+        for row in 1..=array.rows {
+            if !columns.is_empty() && !self.one_in(3) {
+                let column = columns.swap_remove(self.below(columns.len()));
+                case.grid[position((row, column))] = FAULTY;
+            }
+        }
+        self.close_outward(&mut case);
+        if self.one_in(4) {
+            self.deaden(array, &mut case);
+        }
+        case
+    }
+
     /// Gives every inner fault some direction.
     fn directed(&mut self, mut case: Case) -> Case {
         case.directions = vec![0; LENGTH];
@@ -682,6 +700,25 @@ impl Maker {
         case
     }
 
+    /// A map for the exact planner, which has no limit: mostly a small one.
+    fn for_exact_plan(&mut self, rare: usize, small: usize) -> Case {
+        let (array, larger) = (self.array(rare, small), self.array(rare, 2 * small));
+        let large = Array { rows: 20 + self.below(11), columns: 20 + self.below(11) };
+        let mut case = match self.below(512) {
+            0 => self.hard(),
+            1 => self.hard_closed(),
+            2 => self.core(large),
+            3..=66 => self.core(larger),
+            67..=194 => self.closed(larger),
+            195..=226 => self.near_rim(array),
+            227..=258 => self.in_line(array),
+            259..=322 => self.planned(array),
+            _ => self.scattered(array),
+        };
+        case.directions = self.noise(LENGTH).to_vec();
+        case
+    }
+
     pub fn for_planner(&mut self) -> Case {
         let mut case = self.for_plan(512, 4);
         self.spoil(&mut case, 4, &MAP_DAMAGES);
@@ -705,6 +742,20 @@ impl Maker {
         case
     }
 
+    pub fn for_exact_planner(&mut self) -> Case {
+        let mut case = self.for_exact_plan(512, 4);
+        self.spoil(&mut case, 4, &MAP_DAMAGES);
+        case
+    }
+
+    /// A map for the exact planner beside the first one, with room for the plan of each. The limit is mostly high enough.
+    pub fn for_exact_and_first(&mut self) -> Case {
+        let mut case = self.for_exact_plan(512, 4);
+        case.limit = self.pick(&[20, ENOUGH, ENOUGH, 10 * ENOUGH]);
+        case.across = self.noise(LENGTH).to_vec();
+        case
+    }
+
     /// Buffers for a whole run.
     fn with_room(&mut self, mut case: Case) -> Case {
         case.places = self.noise_words();
@@ -721,6 +772,11 @@ impl Maker {
 
     pub fn for_quick_run(&mut self) -> Case {
         let case = self.for_quick_plan(8192, 2);
+        self.with_room(case)
+    }
+
+    pub fn for_exact_run(&mut self) -> Case {
+        let case = self.for_exact_plan(8192, 2);
         self.with_room(case)
     }
 
@@ -990,6 +1046,11 @@ impl Maker {
     pub fn for_quick_report(&mut self) -> Case {
         let case = self.for_quick_listing();
         self.with_file(reference::settle_and_search, case)
+    }
+
+    pub fn for_exact_report(&mut self) -> Case {
+        let case = self.for_exact_plan(2048, 3);
+        self.with_file(reference::decide, case)
     }
 }
 

@@ -2,7 +2,7 @@
 
 use crate::Buffers;
 use crate::inputs::{Case, ENOUGH, Maker};
-use crate::reference::{self, Array, Planner, search_all, settle_and_search};
+use crate::reference::{self, Array, Decision, Planner, decide, search_all, settle_and_search};
 use chantspruce::{Reason, flat};
 
 /// An answer as plain numbers: the number of the refusal (0 for an accepted call), its two places, and the values.
@@ -40,7 +40,8 @@ pub const REFUSED_MAP: u32 = 104;
 const SECOND_COUNT_0: u32 = 105;
 const IN_BOTH_LISTS: u32 = 106;
 
-/// Kinds of answers of both planners together; either may be spent alone. The last two should not come.
+/// Kinds of answers of two planners together. Of the first and the quick one either may be spent alone, of the first and the
+/// exact one only the first. The differences should not come.
 const BOTH_REPAIRED: u32 = 107;
 const BOTH_BEYOND: u32 = 108;
 const BOTH_SPENT: u32 = 109;
@@ -48,8 +49,12 @@ const FIRST_SPENT: u32 = 110;
 const QUICK_SPENT: u32 = 111;
 const VERDICTS_DIFFER: u32 = 112;
 const NO_PLAN: u32 = 113;
+const SPENT_REPAIRED: u32 = 114;
+const SPENT_BEYOND: u32 = 115;
+const PLANS_DIFFER: u32 = 116;
 
-/// Added to the kind of an outcome of the quick planner where there is an inner fault: it settles none of them, some or all.
+/// Added to the kind of an outcome of the quick and of the exact planner where there is an inner fault: the quick one settles
+/// none of them, some or all.
 /// Each is a multiple of the first, which is above all kinds that have no addition.
 const NONE_SETTLED: u32 = 200;
 const SOME_SETTLED: u32 = 400;
@@ -76,6 +81,9 @@ pub fn kind_name(kind: u32) -> String {
         QUICK_SPENT => "only the quick one spent".to_string(),
         VERDICTS_DIFFER => "verdicts that differ".to_string(),
         NO_PLAN => "a plan that is none".to_string(),
+        SPENT_REPAIRED => "the first spent, repaired".to_string(),
+        SPENT_BEYOND => "the first spent, beyond repair".to_string(),
+        PLANS_DIFFER => "plans that differ".to_string(),
         DEAD.. => format!("{}, dead", kind_name(kind - DEAD)),
         ALL_SETTLED.. => format!("{}, all settled", kind_name(kind - ALL_SETTLED)),
         SOME_SETTLED.. => format!("{}, some settled", kind_name(kind - SOME_SETTLED)),
@@ -109,7 +117,7 @@ fn by_listing(answer: &Answer, after: &Case) -> u32 {
     }
 }
 
-/// The kind of the quick planner's answer, with how much it settles.
+/// The kind of the quick or the exact planner's answer, with how much the quick one settles.
 fn by_quick_outcome(answer: &Answer, after: &Case) -> u32 {
     let kind = by_outcome(answer, after);
     if answer.number == 0 { kind + extent(Array { rows: after.n, columns: after.m }, &after.grid) } else { kind }
@@ -135,8 +143,8 @@ fn extent(array: Array, grid: &[u8]) -> u32 {
     }
 }
 
-/// The kind of both planners' answer: its values are the outcome of each, and whether the quick one's directions pass the
-/// plan check.
+/// The kind of the first and the quick planner's answer: its values are the outcome of each, and whether the quick one's
+/// directions pass the plan check.
 fn by_verdicts(answer: &Answer, _: &Case) -> u32 {
     match answer.values {
         [_, 1, 0] => NO_PLAN,
@@ -145,6 +153,19 @@ fn by_verdicts(answer: &Answer, _: &Case) -> u32 {
         [3, 3, _] => BOTH_SPENT,
         [3, _, _] => FIRST_SPENT,
         [_, 3, _] => QUICK_SPENT,
+        _ => VERDICTS_DIFFER,
+    }
+}
+
+/// The kind of the first and the exact planner's answer: its values are the outcome of each, and whether their directions are
+/// the same.
+fn by_decision(answer: &Answer, _: &Case) -> u32 {
+    match answer.values {
+        [3, 1, _] => SPENT_REPAIRED,
+        [3, 2, _] => SPENT_BEYOND,
+        [1, 1, 1] => BOTH_REPAIRED,
+        [2, 2, 1] => BOTH_BEYOND,
+        [1, 1, _] | [2, 2, _] => PLANS_DIFFER,
         _ => VERDICTS_DIFFER,
     }
 }
@@ -202,7 +223,7 @@ fn in_grid(operation: &Operation, kind: u32, before: &Case) -> bool {
     verdict_of((operation.kind)(&answer, &ordinary)) != verdict_of(kind)
 }
 
-/// A kind without what is added for the quick planner.
+/// A kind without what is added for what is settled.
 fn verdict_of(kind: u32) -> u32 {
     kind % NONE_SETTLED
 }
@@ -219,7 +240,7 @@ fn in_file(planner: Planner, kind: u32, before: &Case) -> bool {
     }
     make_ordinary(&mut grid);
     let ordinary = reference::plan(planner, head.rows, head.columns, &grid, &mut [0; reference::LENGTH], ENOUGH);
-    verdict != BEYOND || !matches!(ordinary, Ok(reference::Outcome::Beyond(_)))
+    verdict != BEYOND || !matches!(ordinary, Ok(reference::Outcome::Beyond(_) | reference::Outcome::Decided(Decision::Beyond)))
 }
 
 /// Makes ordinary faults of dead processors.
@@ -289,6 +310,8 @@ fn outcome_told(outcome: reference::Outcome, links: usize) -> [usize; 3] {
         reference::Outcome::Repaired(trials) => [1, trials as usize, links],
         reference::Outcome::Beyond(trials) => [2, trials as usize, links],
         reference::Outcome::Spent(limit) => [3, limit as usize, links],
+        reference::Outcome::Decided(Decision::Repaired) => [1, 0, links],
+        reference::Outcome::Decided(Decision::Beyond) => [2, 0, links],
     }
 }
 
@@ -303,6 +326,13 @@ fn outcome_said(outcome: chantspruce::Outcome, links: usize) -> [usize; 3] {
         chantspruce::Outcome::Repaired(trials) => [1, trials as usize, links],
         chantspruce::Outcome::Beyond(trials) => [2, trials as usize, links],
         chantspruce::Outcome::Spent(limit) => [3, limit as usize, links],
+    }
+}
+
+fn decision_said(decision: chantspruce::Decision, links: usize) -> [usize; 3] {
+    match decision {
+        chantspruce::Decision::Repaired => [1, 0, links],
+        chantspruce::Decision::Beyond => [2, 0, links],
     }
 }
 
@@ -365,17 +395,39 @@ const QUICK_KINDS: [u32; 19] = [
     DEAD + 3,
 ];
 
-pub const OPERATIONS: [Operation; 17] = [
+/// The kinds of the exact planner and of a run with it.
+const EXACT_KINDS: [u32; 15] = [
+    REPAIRED,
+    REPAIRED + NONE_SETTLED,
+    REPAIRED + SOME_SETTLED,
+    REPAIRED + ALL_SETTLED,
+    BEYOND + NONE_SETTLED,
+    BEYOND + SOME_SETTLED,
+    1,
+    2,
+    3,
+    DEAD + REPAIRED + NONE_SETTLED,
+    DEAD + REPAIRED + SOME_SETTLED,
+    DEAD + REPAIRED + ALL_SETTLED,
+    DEAD + BEYOND + NONE_SETTLED,
+    DEAD + BEYOND + SOME_SETTLED,
+    DEAD + 3,
+];
+
+pub const OPERATIONS: [Operation; 21] = [
     CHECK_PLAN,
     CHECK_FAULT_LIST,
     PLAN_REPAIR,
     PLAN_QUICKLY,
     BOTH_PLANNERS,
+    PLAN_EXACTLY,
+    EXACT_AND_FIRST,
     PLACE_CELLS,
     ROUTE_SWITCHES,
     FOLLOW_LINK,
     REPAIR_RUN,
     RUN_QUICKLY,
+    RUN_EXACTLY,
     READ_NUMBER,
     READ_MAP,
     READ_PLAN,
@@ -383,6 +435,7 @@ pub const OPERATIONS: [Operation; 17] = [
     WRITE_PLAN,
     REPORT,
     REPORT_QUICKLY,
+    REPORT_EXACTLY,
 ];
 
 const CHECK_PLAN: Operation = Operation {
@@ -440,7 +493,7 @@ const PLAN_QUICKLY: Operation = Operation {
     sized: true,
 };
 
-/// Both planners on the same map and under the same limit: where neither is spent both call it beyond repair, or neither does.
+/// The first and the quick planner on the same map and under the same limit: where neither is spent both call it beyond repair, or neither does.
 const BOTH_PLANNERS: Operation = Operation {
     name: "plan_repair beside plan_quickly",
     seed: 15,
@@ -466,6 +519,48 @@ const BOTH_PLANNERS: Operation = Operation {
     kind: by_verdicts,
     dead: never,
     kinds: &[BOTH_REPAIRED, BOTH_BEYOND, BOTH_SPENT, FIRST_SPENT, QUICK_SPENT],
+    sized: true,
+};
+
+const PLAN_EXACTLY: Operation = Operation {
+    name: "plan_exactly",
+    seed: 18,
+    make: Maker::for_exact_planner,
+    reference: |c| told(reference::plan(decide, c.n, c.m, &c.grid, &mut c.directions, 0), |o| outcome_told(o, 0)),
+    flat: |c, b| planned(flat::plan_exactly(c.n, c.m, b.grid.lend(), b.directions.lend())),
+    safe: |c, b| said(chantspruce::plan_exactly(c.n, c.m, b.grid.lend(), b.directions.lend()), |d| decision_said(d, 0)),
+    kind: by_quick_outcome,
+    dead: in_grid,
+    kinds: &EXACT_KINDS,
+    sized: true,
+};
+
+/// The first and the exact planner on the same map: where the first one is not spent both say the same and write the same.
+const EXACT_AND_FIRST: Operation = Operation {
+    name: "plan_repair beside plan_exactly",
+    seed: 19,
+    make: Maker::for_exact_and_first,
+    reference: |c| {
+        let first = reference::plan(search_all, c.n, c.m, &c.grid, &mut c.across, c.limit);
+        let exact = reference::plan(decide, c.n, c.m, &c.grid, &mut c.directions, 0);
+        let same = usize::from(c.across == c.directions);
+        told(first.and_then(|a| Ok((a, exact?))), |(a, b)| [outcome_told(a, 0)[0], outcome_told(b, 0)[0], same])
+    },
+    flat: |c, b| {
+        let first = planned(flat::plan_repair(c.n, c.m, b.grid.lend(), b.across.lend(), c.limit));
+        let exact = planned(flat::plan_exactly(c.n, c.m, b.grid.lend(), b.directions.lend()));
+        let same = usize::from(b.across.lend() == b.directions.lend());
+        Answer { values: [first.values[0], exact.values[0], same], ..first }
+    },
+    safe: |c, b| {
+        let first = chantspruce::plan_repair(c.n, c.m, b.grid.lend(), b.across.lend(), c.limit);
+        let exact = chantspruce::plan_exactly(c.n, c.m, b.grid.lend(), b.directions.lend());
+        let same = usize::from(b.across.lend() == b.directions.lend());
+        said(first.and_then(|a| Ok((a, exact?))), |(a, b)| [outcome_said(a, 0)[0], decision_said(b, 0)[0], same])
+    },
+    kind: by_decision,
+    dead: never,
+    kinds: &[BOTH_REPAIRED, BOTH_BEYOND, SPENT_REPAIRED, SPENT_BEYOND],
     sized: true,
 };
 
@@ -557,6 +652,26 @@ const RUN_QUICKLY: Operation = Operation {
     kind: by_quick_outcome,
     dead: in_grid,
     kinds: &QUICK_KINDS,
+    sized: true,
+};
+
+const RUN_EXACTLY: Operation = Operation {
+    name: "run_exactly",
+    seed: 20,
+    make: Maker::for_exact_run,
+    reference: |c| run_told(decide, c),
+    flat: |c, b| {
+        let (directions, places, across, down) = (b.directions.lend(), b.places.lend(), b.across.lend(), b.down.lend());
+        planned(flat::run_exactly(c.n, c.m, b.grid.lend(), directions, places, across, down))
+    },
+    safe: |c, b| {
+        let (directions, places, across, down) = (b.directions.lend(), b.places.lend(), b.across.lend(), b.down.lend());
+        let result = chantspruce::run_exactly(c.n, c.m, b.grid.lend(), directions, places, across, down);
+        said(result, |run| decision_said(run.outcome, run.links))
+    },
+    kind: by_quick_outcome,
+    dead: in_grid,
+    kinds: &EXACT_KINDS,
     sized: true,
 };
 
@@ -691,6 +806,33 @@ const REPORT_QUICKLY: Operation = Operation {
         DEAD + BEYOND + SOME_SETTLED,
         DEAD + SPENT + NONE_SETTLED,
         DEAD + SPENT + SOME_SETTLED,
+    ],
+    sized: true,
+};
+
+const REPORT_EXACTLY: Operation = Operation {
+    name: "report_exactly",
+    seed: 21,
+    make: Maker::for_exact_report,
+    reference: |c| told(reference::report(decide, &c.file, &mut c.out), |length| [length, 0, 0]),
+    flat: |_, b| written(flat::report_exactly(b.file.lend(), b.out.lend())),
+    safe: |_, b| said(chantspruce::report_exactly(b.file.lend(), b.out.lend()), |length| [length, 0, 0]),
+    kind: by_quick_listing,
+    dead: |_, kind, before| in_file(decide, kind, before),
+    kinds: &[
+        REPAIRED,
+        REPAIRED + NONE_SETTLED,
+        REPAIRED + SOME_SETTLED,
+        REPAIRED + ALL_SETTLED,
+        BEYOND + NONE_SETTLED,
+        BEYOND + SOME_SETTLED,
+        REFUSED_MAP,
+        14,
+        DEAD + REPAIRED + NONE_SETTLED,
+        DEAD + REPAIRED + SOME_SETTLED,
+        DEAD + REPAIRED + ALL_SETTLED,
+        DEAD + BEYOND + NONE_SETTLED,
+        DEAD + BEYOND + SOME_SETTLED,
     ],
     sized: true,
 };

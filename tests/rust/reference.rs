@@ -37,6 +37,14 @@ pub enum Outcome {
     Repaired(u32),
     Beyond(u32),
     Spent(u32),
+    /// Of the exact planner, which counts no trials.
+    Decided(Decision),
+}
+
+#[derive(Clone, Copy, Debug, PartialEq, Eq)]
+pub enum Decision {
+    Repaired,
+    Beyond,
 }
 
 /// Where a link ends: the position and port entered, and the switches passed.
@@ -411,6 +419,81 @@ pub fn is_outermost((x, y): Cell, side: Direction, unsettled: &BTreeSet<Cell>) -
     })
 }
 
+// The exact planner. Directions are tried in fault order as above, but without a limit; each that is tried takes from the
+// faults after it what clashes, so that it also decides maps on which the trials are spent.
+
+/// An open path.
+struct Open {
+    path: Path,
+    /// Its cells: for each row a bit for each column.
+    bits: [u32; 32],
+}
+
+impl Open {
+    fn new(path: Path) -> Open {
+        let mut bits = [0; 32];
+        path.cells.iter().for_each(|&(x, y)| bits[x] |= 1 << y);
+        Open { path, bits }
+    }
+
+    fn clashes(&self, other: &Open) -> bool {
+        self.bits.iter().zip(other.bits).any(|(a, b)| a & b != 0) || self.path.nearly_misses(&other.path)
+    }
+}
+
+/// For each fault in row order the paths that are left to it, in the order in which they are tried.
+type Left<'a> = Vec<Vec<&'a Open>>;
+
+/// Takes from the faults the paths that clash with the only path of one of the faults `only`, or of one that is then left with
+/// only one. Nothing comes back where a fault is left with none.
+fn narrowed(mut left: Left, mut only: Vec<usize>) -> Option<Left> {
+    while let Some(fault) = only.pop() {
+        let &path = left[fault].first()?;
+        for (other, paths) in left.iter_mut().enumerate().filter(|(other, _)| *other != fault) {
+            let before = paths.len();
+            paths.retain(|p| !p.clashes(path));
+            match paths.len() {
+                0 => return None,
+                1 if before > 1 => only.push(other),
+                _ => {}
+            }
+        }
+    }
+    Some(left)
+}
+
+/// The first choice of one of the paths left to each fault in which no two clash. Those before `fault` have one that clashes
+/// with none that is left.
+fn first_choice(left: Left, fault: usize) -> Option<Left> {
+    let Some(paths) = left.get(fault) else {
+        return Some(left);
+    };
+    paths.iter().find_map(|&path| {
+        let mut chosen = left.clone();
+        chosen[fault] = vec![path];
+        first_choice(narrowed(chosen, vec![fault])?, fault + 1)
+    })
+}
+
+/// The first of all plans, if there is one.
+fn first_plan(array: Array, grid: &[u8]) -> Option<Vec<Path>> {
+    let paths = |fault: Cell| DIRECTIONS.map(|direction| Path::new(array, fault, direction)).into_iter();
+    let open = |fault: Cell| paths(fault).filter(|path| path.is_open(grid)).map(Open::new).collect();
+    let all: Vec<Vec<Open>> = inner_faults(array, grid).into_iter().map(open).collect();
+    let left: Left = all.iter().map(|open| open.iter().collect()).collect();
+    let only = (0..left.len()).filter(|&fault| left[fault].len() < 2).collect();
+    let chosen = first_choice(narrowed(left, only)?, 0)?;
+    Some(chosen.iter().map(|paths| Path::new(array, paths[0].path.start, paths[0].path.direction)).collect())
+}
+
+/// The exact planner, which does not read the limit.
+pub fn decide(array: Array, grid: &[u8], _: u32) -> Found {
+    match first_plan(array, grid) {
+        Some(paths) => (Outcome::Decided(Decision::Repaired), paths),
+        None => (Outcome::Decided(Decision::Beyond), Vec::new()),
+    }
+}
+
 fn write_directions(paths: &[Path], directions: &mut [u8]) {
     directions.fill(0);
     for path in paths {
@@ -418,7 +501,7 @@ fn write_directions(paths: &[Path], directions: &mut [u8]) {
     }
 }
 
-/// Plans with either planner.
+/// Plans with any of the planners.
 pub fn plan(planner: Planner, n: usize, m: usize, grid: &[u8], directions: &mut [u8], limit: u32) -> Result<Outcome, Refusal> {
     let array = test_map(n, m, grid, &[directions.len()])?;
     let (outcome, paths) = planner(array, grid, limit);
@@ -642,7 +725,7 @@ pub fn follow_link(
 /// Outcome and links found to reach their neighbour.
 pub type Ran = (Outcome, usize);
 
-/// A run with either planner.
+/// A run with any of the planners.
 #[allow(clippy::too_many_arguments)]
 pub fn run(
     planner: Planner,
@@ -658,7 +741,7 @@ pub fn run(
     let array = test_map(n, m, grid, &[directions.len(), places.len(), across.len(), down.len()])?;
     let (outcome, paths) = planner(array, grid, limit);
     write_directions(&paths, directions);
-    let Outcome::Repaired(_) = outcome else {
+    let (Outcome::Repaired(_) | Outcome::Decided(Decision::Repaired)) = outcome else {
         return Ok((outcome, 0));
     };
     let plan = Planned { array, paths };
@@ -876,7 +959,7 @@ pub fn write_plan(n: usize, m: usize, directions: &[u8], out: &mut [u8]) -> Resu
 
 // The listing.
 
-/// The listing of a map file, by either planner.
+/// The listing of a map file, by any of the planners.
 pub fn listing(planner: Planner, file: &[u8]) -> String {
     let mut grid = [0; LENGTH];
     match read_map(file, &mut grid) {
@@ -889,10 +972,13 @@ fn list_map(planner: Planner, head: Head, grid: &[u8]) -> String {
     let array = Array { rows: head.rows, columns: head.columns };
     let first = format!("map {} {} {}\n", head.rows, head.columns, head.count);
     let (outcome, paths) = planner(array, grid, LISTING_LIMIT);
+    let lines = || list_plan(&Planned { array, paths });
     match outcome {
         Outcome::Beyond(trials) => format!("{first}beyond {trials}\n"),
         Outcome::Spent(limit) => format!("{first}spent {limit}\n"),
-        Outcome::Repaired(trials) => format!("{first}repaired {trials}\n{}", list_plan(&Planned { array, paths })),
+        Outcome::Repaired(trials) => format!("{first}repaired {trials}\n{}", lines()),
+        Outcome::Decided(Decision::Beyond) => format!("{first}beyond\n"),
+        Outcome::Decided(Decision::Repaired) => format!("{first}repaired\n{}", lines()),
     }
 }
 
