@@ -5,10 +5,12 @@ use crate::show::Shown;
 use crate::words;
 use array::Refusal;
 use array::Verdict;
+use exact::Decision;
 use formats::Number;
 use readers::FileRead;
 use readers::Head;
 use repair::Answer;
+use repair::Planner;
 use runs::Ran;
 use track::Followed;
 use trials::Outcome;
@@ -68,30 +70,48 @@ fn say_outcome(o: Outcome) {
     }
 }
 
-fn plan_into(s: Setup, quick: bool, grid: &[u8], limit: u32, out: &mut [u8]) -> Answer {
+fn say_decision(d: Decision) {
+    match d {
+        Decision::Repaired => show::say(b"repaired"),
+        Decision::Beyond => show::say(b"beyond"),
+    }
+}
+
+fn plan_into(s: Setup, planner: Planner, grid: &[u8], limit: u32, out: &mut [u8]) -> Answer {
     let g = lent(s.grid, grid);
     let d = lent(s.directions, out);
-    if quick {
-        return repair::plan_quickly(s.n, s.m, &grid[..g], &mut out[..d], limit);
+    match planner {
+        Planner::Trials => repair::plan_repair(s.n, s.m, &grid[..g], &mut out[..d], limit),
+        Planner::Quick => repair::plan_quickly(s.n, s.m, &grid[..g], &mut out[..d], limit),
+        Planner::Exact => repair::plan_exactly(s.n, s.m, &grid[..g], &mut out[..d]),
     }
-    repair::plan_repair(s.n, s.m, &grid[..g], &mut out[..d], limit)
+}
+
+// The directions that a planner wrote. They are those of the calls after it.
+fn say_directions(s: Setup, out: &[u8], directions: &mut [u8]) {
+    let d = lent(s.directions, out);
+    show::show(Shown::Directions, s.n, s.m, &out[..d]);
+    copy(directions, out, d);
 }
 
 fn say_plan(s: Setup, a: Answer, out: &[u8], directions: &mut [u8]) {
     match a {
         Answer::Planned(o) => {
-            let d = lent(s.directions, out);
             say_outcome(o);
-            show::show(Shown::Directions, s.n, s.m, &out[..d]);
-            copy(directions, out, d);
+            say_directions(s, out, directions);
+        }
+        Answer::Decided(d) => {
+            say_decision(d);
+            say_directions(s, out, directions);
         }
         Answer::Refused(r) => refuse(r, show::is_kept(out)),
     }
 }
 
-pub fn plan(s: Setup, quick: bool, grid: &[u8], limit: u32, directions: &mut [u8]) {
+// Planning by any planner; the exact one has no limit.
+pub fn plan(s: Setup, planner: Planner, grid: &[u8], limit: u32, directions: &mut [u8]) {
     let mut out = [show::MARK; 1025];
-    let a = plan_into(s, quick, grid, limit, &mut out);
+    let a = plan_into(s, planner, grid, limit, &mut out);
     say_plan(s, a, &out, directions);
 }
 
@@ -201,9 +221,9 @@ pub fn follow(
     ));
 }
 
-// A run by either planner.
+// A run by any planner.
 fn run_by(
-    quick: bool,
+    planner: Planner,
     n: usize,
     m: usize,
     grid: &[u8],
@@ -213,15 +233,16 @@ fn run_by(
     across: &mut [u8],
     down: &mut [u8],
 ) -> Ran {
-    if quick {
-        return runs::run_quickly(n, m, grid, limit, directions, places, across, down);
+    match planner {
+        Planner::Trials => runs::repair_run(n, m, grid, limit, directions, places, across, down),
+        Planner::Quick => runs::run_quickly(n, m, grid, limit, directions, places, across, down),
+        Planner::Exact => runs::run_exactly(n, m, grid, directions, places, across, down),
     }
-    runs::repair_run(n, m, grid, limit, directions, places, across, down)
 }
 
 fn run_into(
     s: Setup,
-    quick: bool,
+    planner: Planner,
     grid: &[u8],
     limit: u32,
     directions: &mut [u8],
@@ -235,7 +256,7 @@ fn run_into(
     let a = lent(s.across, across);
     let w = lent(s.down, down);
     run_by(
-        quick,
+        planner,
         s.n,
         s.m,
         &grid[..g],
@@ -277,6 +298,11 @@ fn say_run(s: Setup, r: Ran, directions: &[u8], places: &[u16], across: &[u8], d
             say_links(r);
             show_run(s, directions, places, across, down);
         }
+        Answer::Decided(d) => {
+            say_decision(d);
+            say_links(r);
+            show_run(s, directions, places, across, down);
+        }
         Answer::Refused(e) => {
             show::say_refusal(e);
             say_links(r);
@@ -285,14 +311,14 @@ fn say_run(s: Setup, r: Ran, directions: &[u8], places: &[u16], across: &[u8], d
     }
 }
 
-pub fn run(s: Setup, quick: bool, grid: &[u8], limit: u32) {
+pub fn run(s: Setup, planner: Planner, grid: &[u8], limit: u32) {
     let mut directions = [show::MARK; 1025];
     let mut places = [show::PLACE_MARK; 1025];
     let mut across = [show::MARK; 1025];
     let mut down = [show::MARK; 1025];
     let r = run_into(
         s,
-        quick,
+        planner,
         grid,
         limit,
         &mut directions,
@@ -446,18 +472,25 @@ pub fn write_plan(s: Setup, directions: &[u8], length: usize, file: &mut [u8]) -
     say_written(s, a, &out, file)
 }
 
-fn report_into(s: Setup, quick: bool, file: &[u8], length: usize, out: &mut [u8]) -> FileWritten {
+fn report_into(
+    s: Setup,
+    planner: Planner,
+    file: &[u8],
+    length: usize,
+    out: &mut [u8],
+) -> FileWritten {
     let f = lent(s.file, file);
     let k = lent(length, out);
-    if quick {
-        return listing::report_quickly(&file[..f], &mut out[..k]);
+    match planner {
+        Planner::Trials => listing::report(&file[..f], &mut out[..k]),
+        Planner::Quick => listing::report_quickly(&file[..f], &mut out[..k]),
+        Planner::Exact => listing::report_exactly(&file[..f], &mut out[..k]),
     }
-    listing::report(&file[..f], &mut out[..k])
 }
 
-pub fn list(s: Setup, quick: bool, file: &[u8], length: usize) {
+pub fn list(s: Setup, planner: Planner, file: &[u8], length: usize) {
     let mut out = [show::MARK; 4096];
-    match report_into(s, quick, file, length, &mut out) {
+    match report_into(s, planner, file, length, &mut out) {
         FileWritten::Length(k) => {
             say_length(k);
             show::show_text(&out, k);

@@ -6,7 +6,9 @@ mod show;
 mod words;
 
 use crate::settings::Setup;
+use crate::words::Value;
 use libc::STDIN_FILENO;
+use repair::Planner;
 ghost use Prim.Native.Nat.{_≤_};
 ghost use lib.ListN.{length};
 
@@ -70,22 +72,43 @@ fn setting_of(line: &[u8]) -> Setting {
     Setting::Other
 }
 
-// Whether a call is for the quick planner: its second word is "quickly".
-fn is_quick(line: &[u8]) -> bool {
-    words::is_word(line, 1, b"quickly")
-}
-
-// Where the number of a call that plans stands.
-fn number_at(line: &[u8]) -> usize {
-    if is_quick(line) { 2 } else { 1 }
-}
-
-// Whether a line has this word, for either planner, and a number.
-fn plans(line: &[u8], name: &[u8]) -> bool {
-    if is_quick(line) {
-        return words::is_word(line, 0, name) & words::has_words(line, 3);
+// The planner that the second word of a call names, or the first planner.
+fn planner_of(line: &[u8]) -> Planner {
+    if words::is_word(line, 1, b"quickly") {
+        return Planner::Quick;
     }
-    words::is_word(line, 0, name) & words::has_words(line, 2)
+    if words::is_word(line, 1, b"exactly") {
+        return Planner::Exact;
+    }
+    Planner::Trials
+}
+
+// How many words a line has that plans. For the exact planner there is no limit among them.
+fn plan_words(planner: Planner) -> usize {
+    match planner {
+        Planner::Trials => 2,
+        Planner::Quick => 3,
+        Planner::Exact => 2,
+    }
+}
+
+// How many words a line has that lists.
+fn list_words(planner: Planner) -> usize {
+    match planner {
+        Planner::Trials => 2,
+        Planner::Quick => 3,
+        Planner::Exact => 3,
+    }
+}
+
+// Whether a line has this word and plans, by any planner.
+fn plans(line: &[u8], name: &[u8]) -> bool {
+    words::is_word(line, 0, name) & words::has_words(line, plan_words(planner_of(line)))
+}
+
+// Whether a line lists, by any planner.
+fn lists(line: &[u8]) -> bool {
+    words::is_word(line, 0, b"list") & words::has_words(line, list_words(planner_of(line)))
 }
 
 fn call_of(line: &[u8]) -> Call {
@@ -110,7 +133,7 @@ fn call_of(line: &[u8]) -> Call {
     if words::is_word(line, 0, b"number") & words::has_words(line, 2) {
         return Call::Number;
     }
-    if plans(line, b"list") {
+    if lists(line) {
         return Call::List;
     }
     if words::is_word(line, 0, b"follow") & words::has_words(line, 3) {
@@ -145,8 +168,26 @@ fn fail() {
     show::say(b"error");
 }
 
+// The limit of a line that plans; 0 for the exact planner, which has none.
+fn limit_of(line: &[u8]) -> Value {
+    match planner_of(line) {
+        Planner::Trials => words::number(line, 1),
+        Planner::Quick => words::number(line, 2),
+        Planner::Exact => Value { value: 0, ok: true },
+    }
+}
+
+// The length in a line that lists.
+fn length_of(line: &[u8]) -> Value {
+    match planner_of(line) {
+        Planner::Trials => words::number(line, 1),
+        Planner::Quick => words::number(line, 2),
+        Planner::Exact => words::number(line, 2),
+    }
+}
+
 fn call_plan(line: &[u8], s: Setup, grid: &[u8], directions: &mut [u8]) {
-    let limit = words::number(line, number_at(line));
+    let limit = limit_of(line);
     if !limit.ok {
         fail();
         return;
@@ -155,11 +196,11 @@ fn call_plan(line: &[u8], s: Setup, grid: &[u8], directions: &mut [u8]) {
         fail();
         return;
     }
-    calls::plan(s, is_quick(line), grid, limit.value as u32, directions);
+    calls::plan(s, planner_of(line), grid, limit.value as u32, directions);
 }
 
 fn call_run(line: &[u8], s: Setup, grid: &[u8]) {
-    let limit = words::number(line, number_at(line));
+    let limit = limit_of(line);
     if !limit.ok {
         fail();
         return;
@@ -168,7 +209,7 @@ fn call_run(line: &[u8], s: Setup, grid: &[u8]) {
         fail();
         return;
     }
-    calls::run(s, is_quick(line), grid, limit.value as u32);
+    calls::run(s, planner_of(line), grid, limit.value as u32);
 }
 
 fn call_follow(line: &[u8], s: Setup, grid: &[u8], directions: &[u8], across: &[u8], down: &[u8]) {
@@ -191,14 +232,14 @@ fn call_number(line: &[u8], s: Setup, file: &[u8]) {
 }
 
 // Whether a number can be the length of the file buffer written to.
-fn is_room(v: words::Value) -> bool {
+fn is_room(v: Value) -> bool {
     v.ok & (v.value <= 4096)
 }
 
 fn call_list(line: &[u8], s: Setup, file: &[u8]) {
-    let length = words::number(line, number_at(line));
+    let length = length_of(line);
     if is_room(length) {
-        calls::list(s, is_quick(line), file, length.value);
+        calls::list(s, planner_of(line), file, length.value);
     } else {
         fail();
     }

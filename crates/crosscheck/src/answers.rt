@@ -1,5 +1,6 @@
 // The answers of the proved operations in the terms of the second ones, and buffers compared.
 use array::Verdict;
+use exact::Decision;
 use readers::FileRead;
 use repair::Answer;
 use second::buffers;
@@ -18,10 +19,25 @@ fn outcome_of(o: Outcome) -> Planned {
     }
 }
 
+// A decision, with no trials.
+fn decision_of(d: Decision) -> Planned {
+    match d {
+        Decision::Repaired => Planned {
+            outcome: 0,
+            count: 0,
+        },
+        Decision::Beyond => Planned {
+            outcome: 1,
+            count: 0,
+        },
+    }
+}
+
 // A planner's answer; outcome 3 where it refuses.
 fn answer_of(a: Answer) -> Planned {
     match a {
         Answer::Planned(o) => outcome_of(o),
+        Answer::Decided(d) => decision_of(d),
         Answer::Refused(_) => Planned {
             outcome: 3,
             count: 0,
@@ -41,6 +57,10 @@ pub fn planned_quickly(
     limit: u32,
 ) -> Planned {
     answer_of(repair::plan_quickly(n, m, grid, directions, limit))
+}
+
+pub fn planned_exactly(n: usize, m: usize, grid: &[u8], directions: &mut [u8]) -> Planned {
+    answer_of(repair::plan_exactly(n, m, grid, directions))
 }
 
 fn finding_of(v: Verdict) -> Finding {

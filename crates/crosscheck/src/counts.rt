@@ -113,6 +113,24 @@ pub const CORE: usize = 50;
 // How often the first planner decides where the quick one is spent.
 pub const FIRST_ONLY: usize = 51;
 
+// The exact planner's verdicts, those where nothing can be settled, and how often both other planners are spent.
+pub const EXACT_REPAIRED: usize = 52;
+
+pub const EXACT_BEYOND: usize = 53;
+
+pub const EXACT_CORES_REPAIRED: usize = 54;
+
+pub const EXACT_CORES_BEYOND: usize = 55;
+
+pub const BOTH_SPENT: usize = 56;
+
+// What differs about the exact planner: its answer from the first one's, its verdict from the quick one's, and what it writes.
+pub const EXACT_ANSWER: usize = 57;
+
+pub const EXACT_VERDICT: usize = 58;
+
+pub const EXACT_PLAN: usize = 59;
+
 pub fn get(tally: &[u64], what: usize) -> u64 {
     if what < tally.len() { tally[what] } else { 0 }
 }
@@ -198,11 +216,27 @@ fn print_quick(tally: &[u64]) {
     print_count(tally, b"quickly beyond", QUICK_BEYOND);
     print_count(tally, b"quickly spent", QUICK_SPENT);
     print_count(tally, b"quick trials", QUICK_TRIALS);
-    print_count(tally, b"decided by the quick planner alone", QUICK_ONLY);
-    print_count(tally, b"decided by the first planner alone", FIRST_ONLY);
+    print_count(tally, b"spent for the first planner alone", QUICK_ONLY);
+    print_count(tally, b"spent for the quick planner alone", FIRST_ONLY);
     print_count(tally, b"repaired with nothing settled", CORES_REPAIRED);
     print_count(tally, b"beyond with nothing settled", CORES_BEYOND);
     print_count(tally, b"spent with nothing settled", CORES_SPENT);
+}
+
+fn print_exact(tally: &[u64]) {
+    print_count(tally, b"exactly repaired", EXACT_REPAIRED);
+    print_count(tally, b"exactly beyond", EXACT_BEYOND);
+    print_count(
+        tally,
+        b"exactly repaired with nothing settled",
+        EXACT_CORES_REPAIRED,
+    );
+    print_count(
+        tally,
+        b"exactly beyond with nothing settled",
+        EXACT_CORES_BEYOND,
+    );
+    print_count(tally, b"decided by the exact planner alone", BOTH_SPENT);
 }
 
 fn print_track(tally: &[u64]) {
@@ -247,6 +281,12 @@ fn print_quick_kinds(tally: &[u64]) {
     print_kind(tally, b"answers with nothing settled", CORE);
 }
 
+fn print_exact_kinds(tally: &[u64]) {
+    print_kind(tally, b"exact answers", EXACT_ANSWER);
+    print_kind(tally, b"exact verdicts", EXACT_VERDICT);
+    print_kind(tally, b"exact plans", EXACT_PLAN);
+}
+
 fn print_track_kinds(tally: &[u64]) {
     print_kind(tally, b"placements", PLACEMENT);
     print_kind(tally, b"seats", SEATS);
@@ -262,10 +302,12 @@ fn print_track_kinds(tally: &[u64]) {
 pub fn print(tally: &[u64]) {
     print_plans(tally);
     print_quick(tally);
+    print_exact(tally);
     print_track(tally);
     print_checks(tally);
     print_plan_kinds(tally);
     print_quick_kinds(tally);
+    print_exact_kinds(tally);
     print_track_kinds(tally);
     print_count(tally, b"differences", DIFFERENCES);
 }

@@ -1,6 +1,7 @@
 // Compares the proved operations with second ones and with brute force on random maps, and prints what was compared.
 mod answers;
 mod counts;
+mod exactly;
 mod files;
 mod planning;
 mod quick;
@@ -76,13 +77,36 @@ fn cross_quickly(
 ) {
     let mut directions = [9u8; 1024];
     let found = quick::cross_verdict(n, m, grid, limit, &mut directions, tally);
-    quick::cross_written(found, n, m, grid, &directions, tally);
+    quick::cross_written(counts::QUICK_PLAN, found, n, m, grid, &directions, tally);
     cross_found(found & tracked, n, m, grid, &directions, marks, tally);
+}
+
+// The quick and the exact planner.
+fn cross_planners(
+    tracked: bool,
+    n: usize,
+    m: usize,
+    limit: u32,
+    grid: &[u8],
+    marks: &mut [u32],
+    tally: &mut [u64],
+) {
+    cross_quickly(tracked, n, m, limit, grid, marks, tally);
+    exactly::cross_map(n, m, grid, tally);
+}
+
+// The planners on the same map with the spares of all outermost faults faulty.
+fn cross_core(n: usize, m: usize, grid: &[u8], limit: u32, tally: &mut [u64]) {
+    let mut core = [9u8; 1024];
+    answers::copy(grid, &mut core);
+    quick::close_sides(n, m, &mut core);
+    quick::cross_closed(n, m, &core, limit, tally);
+    exactly::cross_closed(n, m, &core, tally);
 }
 
 // What needs no plan.
 fn cross_others(seed: &mut u64, n: usize, m: usize, limit: u32, grid: &[u8], tally: &mut [u64]) {
-    quick::cross_core(n, m, grid, limit, tally);
+    cross_core(n, m, grid, limit, tally);
     planning::cross_choice(seed, n, m, grid, tally);
     planning::cross_choice(seed, n, m, grid, tally);
     files::cross_map(n, m, grid, tally);
@@ -111,7 +135,7 @@ fn cross_map(
     let before = counts::get(tally, counts::DIFFERENCES);
     count_map(grid, tally);
     cross_repair(seed, n, m, limit, grid, directions, marks, tally);
-    cross_quickly(tracked, n, m, limit, grid, marks, tally);
+    cross_planners(tracked, n, m, limit, grid, marks, tally);
     cross_others(seed, n, m, limit, grid, tally);
     counts::show(tally, before, n, m, grid);
 }

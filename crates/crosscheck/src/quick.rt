@@ -7,7 +7,7 @@ use second::checks;
 use second::planner::Planned;
 
 // Whether two planners agree: where neither is spent, both repair the map or neither does.
-fn agree(a: Planned, b: Planned) -> bool {
+pub fn agree(a: Planned, b: Planned) -> bool {
     ((a.outcome == 2) | (b.outcome == 2)) | (a.outcome == b.outcome)
 }
 
@@ -51,8 +51,9 @@ pub fn cross_verdict(
     b.outcome == 0
 }
 
-// The directions of the quick planner: a plan by the second check where the map is repaired, else all 0.
+// The directions that a planner wrote: a plan by the second check where the map is repaired, else all 0. `what` counts those that are not.
 pub fn cross_written(
+    what: usize,
     found: bool,
     n: usize,
     m: usize,
@@ -62,13 +63,9 @@ pub fn cross_written(
 ) {
     if found {
         let f = checks::check(n, m, grid, directions);
-        compare(tally, f.number == 0, counts::QUICK_PLAN);
+        compare(tally, f.number == 0, what);
     } else {
-        compare(
-            tally,
-            answers::count_of(directions, 0) == 1024,
-            counts::QUICK_PLAN,
-        );
+        compare(tally, answers::count_of(directions, 0) == 1024, what);
     }
 }
 
@@ -122,7 +119,8 @@ fn close_side(n: usize, m: usize, grid: &mut [u8], d: u8) {
     }
 }
 
-fn close_sides(n: usize, m: usize, grid: &mut [u8]) {
+// Closes the paths of all outermost faults, so that nothing can be settled.
+pub fn close_sides(n: usize, m: usize, grid: &mut [u8]) {
     close_side(n, m, grid, 1);
     close_side(n, m, grid, 2);
     close_side(n, m, grid, 3);
@@ -138,7 +136,7 @@ fn count_of_core(outcome: u8) -> usize {
 }
 
 // Both planners on a map where nothing can be settled: the same outcome, the same count and the same directions.
-fn cross_closed(n: usize, m: usize, grid: &[u8], limit: u32, tally: &mut [u64]) {
+pub fn cross_closed(n: usize, m: usize, grid: &[u8], limit: u32, tally: &mut [u64]) {
     let mut first = [9u8; 1024];
     let mut quick = [9u8; 1024];
     let a = answers::planned(n, m, grid, &mut first, limit);
@@ -147,12 +145,4 @@ fn cross_closed(n: usize, m: usize, grid: &[u8], limit: u32, tally: &mut [u64]) 
         & answers::are_same(&first, &quick);
     compare(tally, same, counts::CORE);
     counts::add(tally, count_of_core(a.outcome), 1);
-}
-
-// The same map with the spares of all outermost faults faulty.
-pub fn cross_core(n: usize, m: usize, grid: &[u8], limit: u32, tally: &mut [u64]) {
-    let mut core = [9u8; 1024];
-    answers::copy(grid, &mut core);
-    close_sides(n, m, &mut core);
-    cross_closed(n, m, &core, limit, tally);
 }

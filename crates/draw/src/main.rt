@@ -113,11 +113,12 @@ fn draw_planned(head: Head, o: Outcome, grid: &[u8], directions: &[u8]) {
     output::text(b"</g>\n</svg>\n");
 }
 
-// Plans and draws a map that was read.
+// Plans and draws a map that was read. Only the exact planner, which is not asked here, answers a decision.
 fn draw_map(head: Head, grid: &[u8]) {
     let mut directions = [0u8; 1024];
     match repair::plan_repair(head.rows, head.columns, grid, &mut directions, LIMIT) {
         Answer::Planned(o) => draw_planned(head, o, grid, &directions),
+        Answer::Decided(_) => {}
         Answer::Refused(r) => draw_refusal(r),
     }
 }
