@@ -302,9 +302,11 @@ found-written n m grid starts best directions f e p h q =
 pub too-many : (n m : ℕ) (grid starts : List ℕ) → starts ≡ faults n m grid → n ≤ 30 → m ≤ 30 → 2 * (n + m) < length starts
     → (false ≡ is-found (planned n m grid)) × (zeros ≡ directions-found (faults n m grid) (planned n m grid))
 too-many n m grid starts e a b h =
-    let none = none-found n m grid [] (λ xs p. omega (arith, plan-spares n m grid xs a b p, h, ap length e)) in
-    (none .0, ap (λ (f : Bool). cond f (buffer (direction-of (paired (faults n m grid) []))) zeros) (none .0)
-    ∙ written-found (faults n m grid) [] (planned n m grid) (none .1))
+    let none = none-found n m grid [] (λ xs p. omega (arith, plan-spares n m grid xs a b p, h, ap length e)) in (
+      none .0,
+      ap (λ (f : Bool). cond f (buffer (direction-of (paired (faults n m grid) []))) zeros) (none .0)
+          ∙ written-found (faults n m grid) [] (planned n m grid) (none .1),
+    )
 
 -- what is answered
 pub decided-found : (s : Search) {r : Bool} → r ≡ is-found s → r ≡ true → Repaired ≡ decided s

@@ -3,6 +3,7 @@ pub mod Cover
 pub mod Crossings
 pub mod Spares
 pub mod Options
+pub mod Listing
 pub mod Striking
 pub mod Nexting
 pub mod Spreading

@@ -15,6 +15,7 @@ use Rattle.array.proofs.Bools.{by-eq}
 use Rattle.exact.specs.Options.{at, Later, Not-later, Solution, No-solution, First-solution, Closed-at, Narrowed}
 use Rattle.exact.specs.Inner.{Judged, clears-on, Spreadable, Held, Keeps, Marked, Closed, Struck, Spread, Settled, Unsettled, Next}
 use Rattle.exact.proofs.Options.{low-in, high-in, stays, still-one, narrow-none, narrow-more, closed-still, survives, changed}
+use Rattle.exact.proofs.Listing.{still-listed}
 use Rattle.exact.proofs.Striking.{still-held}
 
 -- how many are not marked
@@ -311,7 +312,7 @@ module _ (count : ℕ) (a b : List ℕ) where
     compare-end h = inl (λ j l. sym (s .same j (omega arith)))
 
 -- The two tries of one fault, over buffers that are copies.
-module _ {clashes starts lo hi done : List ℕ} (k : ℕ) (s : Spreadable clashes starts lo hi done) (below : k < length starts) where
+module _ {clashes starts next lo hi done : List ℕ} (k : ℕ) (s : Spreadable clashes starts next lo hi done) (below : k < length starts) where
   abbrev faults : ℕ
   faults = length starts
 
@@ -319,11 +320,12 @@ module _ {clashes starts lo hi done : List ℕ} (k : ℕ) (s : Spreadable clashe
   clear = clears-on starts
 
   pub down-ready : {low high marks : List ℕ} → low ≡ lo → high ≡ hi → marks ≡ done
-      → Spreadable clashes starts low (set high k (at lo k)) marks
+      → Spreadable clashes starts next low (set high k (at lo k)) marks
   down-ready {low} {high} {marks} x y z =
       rw (x, y, z) (record {
         sited = s .sited;
         held = down-held faults clear lo hi (s .held) k below;
+        listed = still-listed (narrow-down faults clear lo hi (s .held) k below) (s .listed);
         done-long = s .done-long;
         marked = marked-still (narrow-down faults clear lo hi (s .held) k below) (s .marked);
       })
@@ -349,11 +351,12 @@ module _ {clashes starts lo hi done : List ℕ} (k : ℕ) (s : Spreadable clashe
   }
 
   module _ {lo₁ hi₁ done₁ : List ℕ} (u : Unsettled faults clear k lo hi done lo₁ hi₁ done₁) where
-    pub up-ready : Spreadable clashes starts (set lo₁ k (at hi₁ k)) hi₁ done₁
+    pub up-ready : Spreadable clashes starts next (set lo₁ k (at hi₁ k)) hi₁ done₁
     up-ready =
         rw (u .same-low, u .same-high, u .same-done) (record {
           sited = s .sited;
           held = up-held faults clear lo hi (s .held) k below;
+          listed = still-listed (narrow-up faults clear lo hi (s .held) k below) (s .listed);
           done-long = s .done-long;
           marked = marked-still (narrow-up faults clear lo hi (s .held) k below) (s .marked);
         })

@@ -11,7 +11,7 @@ use lib.ListN.{length, set, length-set}
 use lib.Seq.{getD-set-same, getD-set-other, set-getD}
 use Rattle.array.proofs.Bools.{by-eq, by-lt, or-false}
 use Rattle.exact.specs.Options.{at, Solution, No-solution, Narrowed}
-use Rattle.exact.specs.Inner.{Judged, clears-on, Held, Keeps, Struck, Strikes-one}
+use Rattle.exact.specs.Inner.{Judged, clears-on, Option, Skips, Held, Keeps, Struck, Strikes-one}
 use Rattle.exact.proofs.Options.{low-in, high-in, stays, still-one, still-ordered, narrow-none, narrow-more}
 
 -- answers
@@ -67,11 +67,13 @@ module _ (starts lo hi : List ℕ) (f d g : ℕ) where
   one-struck {a} ea one =
       let b : a ≡ clears-on starts f d g (at hi g) = ea ∙ ap (clears-on starts f d g) one in
       let same : cond (clears-on starts f d g (at lo g)) (at lo g) (at hi g) ≡ at lo g = one-of (clears-on starts f d g (at lo g)) (sym one) in
-      let same-too : cond (clears-on starts f d g (at hi g)) (at hi g) (at lo g) ≡ at hi g = one-of (clears-on starts f d g (at hi g)) one in
-      (or-same a ∙ (λ i. ea i || b i), record {
-        yes = λ e. (sym (ap (set lo g) same ∙ set-getD lo g 0), sym (ap (set hi g) same-too ∙ set-getD hi g 0));
-        no = λ e. (refl, refl);
-      })
+      let same-too : cond (clears-on starts f d g (at hi g)) (at hi g) (at lo g) ≡ at hi g = one-of (clears-on starts f d g (at hi g)) one in (
+        or-same a ∙ (λ i. ea i || b i),
+        record {
+          yes = λ e. (sym (ap (set lo g) same ∙ set-getD lo g 0), sym (ap (set hi g) same-too ∙ set-getD hi g 0));
+          no = λ e. (refl, refl);
+        },
+      )
 
   pub none-struck : {a b : Bool} → a ≡ clears-on starts f d g (at lo g) → b ≡ clears-on starts f d g (at hi g)
       → not (a || b) ≡ true → Strikes-one starts lo hi f d g false lo hi
@@ -80,13 +82,16 @@ module _ (starts lo hi : List ℕ) (f d g : ℕ) where
   pub two-struck : {a b : Bool} {x y : ℕ} → a ≡ clears-on starts f d g (at lo g) → b ≡ clears-on starts f d g (at hi g)
       → (a || b) ≡ true → x ≡ cond a (at lo g) (at hi g) → y ≡ cond b (at hi g) (at lo g)
       → Strikes-one starts lo hi f d g true (set lo g x) (set hi g y)
-  two-struck {a} {b} ea eb h ex ey = (sym h ∙ (λ i. ea i || eb i), record {
-    yes = λ e. (
-      ap (set lo g) (ex ∙ ap (λ (t : Bool). cond t (at lo g) (at hi g)) ea),
-      ap (set hi g) (ey ∙ ap (λ (t : Bool). cond t (at hi g) (at lo g)) eb),
-    );
-    no = λ e. absurd (true≢false e);
-  })
+  two-struck {a} {b} ea eb h ex ey = (
+    sym h ∙ (λ i. ea i || eb i),
+    record {
+      yes = λ e. (
+        ap (set lo g) (ex ∙ ap (λ (t : Bool). cond t (at lo g) (at hi g)) ea),
+        ap (set hi g) (ey ∙ ap (λ (t : Bool). cond t (at hi g) (at lo g)) eb),
+      );
+      no = λ e. absurd (true≢false e);
+    },
+  )
 
 module _ (count : ℕ) (clears : ℕ → ℕ → ℕ → ℕ → Bool) (lo hi : List ℕ) (f : ℕ) where
   pub record Striking (g : ℕ) (lo′ hi′ : List ℕ) : Type 0 where
@@ -113,19 +118,26 @@ module _ (count : ℕ) (clears : ℕ → ℕ → ℕ → ℕ → Bool) (lo hi : 
     passed = λ j l ne. absurd (omega arith);
   }
 
-  module _ {g : ℕ} {lo′ hi′ : List ℕ} (s : Now g lo′ hi′) (l : g < count) where
-    -- f itself is passed over
-    pub strike-own : g ≡ f → Now (g + 1) lo′ hi′
-    strike-own e = record {
-      within = omega arith;
-      low-same = s .low-same;
-      high-same = s .high-same;
-      held = s .held;
-      narrowed = s .narrowed;
-      keeps = s .keeps;
-      passed = λ j h ne. by-lt j g (λ b. s .passed j b ne) (λ b. absurd (ne (omega arith)));
-    }
+  -- the list of f leads over faults that pass
+  pub strike-skip : {g i : ℕ} {lo′ hi′ : List ℕ} → Skips count clears (Option (at lo) (at hi)) f g i → Now g lo′ hi′ → Now i lo′ hi′
+  strike-skip {g} {i} {lo′} {hi′} k s =
+      let w = k .within in
+      record {
+        within = w;
+        low-same = s .low-same;
+        high-same = s .high-same;
+        held = s .held;
+        narrowed = s .narrowed;
+        keeps = s .keeps;
+        passed = λ j h ne.
+            by-lt j g (λ b. s .passed j b ne)
+            (λ b. (
+              k .passes j b h ne (at lo f) (at lo′ j) (inl refl) (low-in (s .narrowed) j (omega arith)),
+              k .passes j b h ne (at lo f) (at hi′ j) (inl refl) (high-in (s .narrowed) j (omega arith)),
+            ));
+      }
 
+  module _ {g : ℕ} {lo′ hi′ : List ℕ} (s : Now g lo′ hi′) (l : g < count) where
     -- every solution has f's option
     has-one : (q : ℕ → ℕ) → Solution count clears (at lo′) (at hi′) q → q f ≡ at lo f
     has-one q z =

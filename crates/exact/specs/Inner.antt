@@ -41,6 +41,34 @@ pub record Held (count : ℕ) (lo hi : List ℕ) : Type 0 where
   pub ordered : (k : ℕ) → k < count → at lo k ≤ at hi k
   pub high : (k : ℕ) → k < count → at hi k ≤ 4
 
+-- the options of fault k
+abbrev pub Option : (ℕ → ℕ) → (ℕ → ℕ) → ℕ → ℕ → Type 0
+Option lo hi k x = (x ≡ lo k) ⊎ (x ≡ hi k)
+
+-- every direction that fault f may have passes with every one that fault h may have
+abbrev pub Passes : (ℕ → ℕ → ℕ → ℕ → Bool) → (ℕ → ℕ → Type 0) → ℕ → ℕ → Type 0
+Passes clears may f h = (x y : ℕ) → may f x → may h y → clears f x h y ≡ true
+
+-- The lists, a row of 129 places for each fault: place g of row f names the first fault from g on that may clash with f, or the
+-- number of faults.
+module _ (count : ℕ) (clears : ℕ → ℕ → ℕ → ℕ → Bool) (may : ℕ → ℕ → Type 0) where
+  -- the faults from g to s pass with f
+  pub record Skips (f g s : ℕ) : Type 0 where
+    pub from : g ≤ s
+    pub within : s ≤ count
+    pub other : f ≡ s → ⊥
+    pub passes : (h : ℕ) → g ≤ h → h < s → (f ≡ h → ⊥) → Passes clears may f h
+
+  pub record Listed (next : List ℕ) : Type 0 where
+    pub long : length next ≡ 16512
+    pub skips : (f g : ℕ) → f < count → g ≤ count → Skips f g (at next (129 * f + g))
+
+  -- row f is right from place g on, and the rows before it are as they were
+  pub record Row-listed (f : ℕ) (next : List ℕ) (g : ℕ) (next′ : List ℕ) : Type 0 where
+    pub long : length next′ ≡ 16512
+    pub same : (i : ℕ) → i < 129 * f → at next′ i ≡ at next i
+    pub skips : (j : ℕ) → g ≤ j → j ≤ count → Skips f j (at next′ (129 * f + j))
+
 module _ (count : ℕ) (clears : ℕ → ℕ → ℕ → ℕ → Bool) where
   -- the faults that are marked are closed
   abbrev pub Marked : (ℕ → ℕ) → (ℕ → ℕ) → (ℕ → ℕ) → Type 0
@@ -83,9 +111,10 @@ pub record Unsettled (count : ℕ) (clears : ℕ → ℕ → ℕ → ℕ → Boo
   pub not-low : (q : ℕ → ℕ) → Solution count clears (at lo) (at hi) q → q k ≡ at lo k → ⊥
 
 -- what the propagation works over
-pub record Spreadable (clashes starts lo hi done : List ℕ) : Type 0 where
+pub record Spreadable (clashes starts next lo hi done : List ℕ) : Type 0 where
   pub sited : Sited clashes starts
   pub held : Held (length starts) lo hi
+  pub listed : Listed (length starts) (clears-on starts) (Option (at lo) (at hi)) next
   pub done-long : length done ≡ 128
   pub marked : Marked (length starts) (clears-on starts) (at lo) (at hi) (at done)
 
@@ -171,10 +200,14 @@ pub record Stuck (count : ℕ) (table : List ℕ) : Type 0 where
   pub below : k < count
   pub none : (d : ℕ) → 1 ≤ d → d ≤ 4 → alone-in table k d ≡ false
 
--- what the pairs are tried over: the faults, their directions allowed alone, and room for the best plan
-pub record Ready (clashes starts table best : List ℕ) : Type 0 where
+abbrev pub Alone : List ℕ → ℕ → ℕ → Type 0
+Alone table k d = (1 ≤ d) × (d ≤ 4) × (alone-in table k d ≡ true)
+
+-- what the pairs are tried over: the faults, their directions allowed alone, the lists, and room for the best plan
+pub record Ready (clashes starts table next best : List ℕ) : Type 0 where
   pub sited : Sited clashes starts
   pub table-long : length table ≡ 512
+  pub listed : Listed (length starts) (clears-on starts) (Alone table) next
   pub best-long : length best ≡ 128
 
 -- The best so far, where there is one, and the solutions of these options: none of either comes before what is kept.

@@ -3,7 +3,7 @@
 // first of all plans. The functions are inner parts: each requires what the planner has tested.
 use paths::CLEAR;
 ghost use mathlib.Core.Path.{_≡_};
-ghost use mathlib.Core.Bool.{true, cond, _&&_};
+ghost use mathlib.Core.Bool.{true, false, cond, _&&_};
 ghost use Prim.Native.Nat.{ℕ, _+_, _*_, _-_, _≤_, _<_};
 ghost use lib.Dec.{ltb};
 ghost use lib.ListN.{length, getD, take};
@@ -17,6 +17,7 @@ ghost use Rattle.exact.specs.Masks.{fits, exchanged, leaves, tried, end-
 ghost use Rattle.exact.specs.Options.{at, Later, Not-later};
 ghost use Rattle.exact.specs.Problem.{Covered};
 ghost use Rattle.exact.specs.Inner.{Judged, clears-on, Sited, Held, Spreadable, Closed, Next};
+ghost use Rattle.exact.specs.Inner.{Option, Passes, Listed, Row-listed, Alone};
 ghost use Rattle.exact.specs.Inner.{Strikes-one, Strikes, Spreads, Settles-low, Settles, Solves, Takes};
 ghost use Rattle.exact.specs.Inner.{alone-in, lowest, highest, Offers, Starved, Stuck, Placed, Tabled};
 ghost use Rattle.exact.specs.Inner.{Ready, Bettered, Left-by, Row-covered, Some-covered};
@@ -135,7 +136,8 @@ fn does_pass(clashes: &[u8; 400], starts: &[u16], f: usize, d: u8, g: usize, e: 
         (q / 32) as u8,
         (q % 32) as u8,
         e,
-    ) == CLEAR
+    )
+        == CLEAR
 }
 
 // Takes from fault g the options that do not pass with direction d of fault f; false where it is left none.
@@ -168,18 +170,27 @@ fn strike_one(
 }
 
 // Fault f has one option. Takes from every other fault the options that do not pass with it; false where one is left none.
-fn strike(clashes: &[u8; 400], starts: &[u16], lo: &mut [u8], hi: &mut [u8], f: usize) -> bool
+// Only the faults that the list of f names are looked at.
+fn strike(
+    clashes: &[u8; 400],
+    starts: &[u16],
+    next: &[u8],
+    lo: &mut [u8],
+    hi: &mut [u8],
+    f: usize,
+) -> bool
     requires { ⌜ Sited (now clashes) (now starts) × Held (length (now starts)) (now lo) (now hi) × (f < length (now starts))
-        × (at (now lo) f ≡ at (now hi) f) ⌝ }
+        × (at (now lo) f ≡ at (now hi) f)
+        × Listed (length (now starts)) (clears-on (now starts)) (Option (at (now lo)) (at (now hi))) (now next) ⌝ }
     ensures { λ r. ⌜ Strikes (now (starts .entry)) (now (lo .entry)) (now (hi .entry)) f r (now (lo .exit)) (now (hi .exit)) ⌝ }
 {
     let d = lo[f];
-    for g in 0..starts.len() {
-        if g != f {
-            if !strike_one(clashes, starts, lo, hi, f, d, g) {
-                return false;
-            }
+    let mut g = next[129 * f] as usize;
+    while g < starts.len() {
+        if !strike_one(clashes, starts, lo, hi, f, d, g) {
+            return false;
         }
+        g = next[129 * f + g + 1] as usize;
     }
     true
 }
@@ -201,17 +212,18 @@ fn find_next(count: usize, lo: &[u8], hi: &[u8], done: &[u8]) -> usize
 fn spread(
     clashes: &[u8; 400],
     starts: &[u16],
+    next: &[u8],
     lo: &mut [u8],
     hi: &mut [u8],
     done: &mut [u8],
 ) -> bool
-    requires { ⌜ Spreadable (now clashes) (now starts) (now lo) (now hi) (now done) ⌝ }
+    requires { ⌜ Spreadable (now clashes) (now starts) (now next) (now lo) (now hi) (now done) ⌝ }
     ensures { λ r. ⌜ Spreads (now (starts .entry)) (now (lo .entry)) (now (hi .entry)) r (now (lo .exit)) (now (hi .exit)) (now (done .exit)) ⌝ }
 {
     let count = starts.len();
     let mut f = find_next(count, lo, hi, done);
     while f < count {
-        if !strike(clashes, starts, lo, hi, f) {
+        if !strike(clashes, starts, next, lo, hi, f) {
             return false;
         }
         done[f] = 1;
@@ -234,12 +246,13 @@ fn copy(from: &[u8], to: &mut [u8])
 fn settle_low(
     clashes: &[u8; 400],
     starts: &[u16],
+    next: &[u8],
     lo: &mut [u8],
     hi: &mut [u8],
     done: &mut [u8],
     k: usize,
 ) -> bool
-    requires { ⌜ Spreadable (now clashes) (now starts) (now lo) (now hi) (now done) × (k < length (now starts))
+    requires { ⌜ Spreadable (now clashes) (now starts) (now next) (now lo) (now hi) (now done) × (k < length (now starts))
         × (at (now lo) k < at (now hi) k) ⌝ }
     ensures { λ r. ⌜ Settles-low (now (starts .entry)) k (now (lo .entry)) (now (hi .entry)) (now (done .entry)) r
         (now (lo .exit)) (now (hi .exit)) (now (done .exit)) ⌝ }
@@ -251,7 +264,7 @@ fn settle_low(
     copy(hi, &mut high);
     copy(done, &mut marks);
     high[k] = lo[k];
-    if !spread(clashes, starts, &mut low, &mut high, &mut marks) {
+    if !spread(clashes, starts, next, &mut low, &mut high, &mut marks) {
         return false;
     }
     copy(&low, lo);
@@ -264,39 +277,41 @@ fn settle_low(
 fn settle(
     clashes: &[u8; 400],
     starts: &[u16],
+    next: &[u8],
     lo: &mut [u8],
     hi: &mut [u8],
     done: &mut [u8],
     k: usize,
 ) -> bool
-    requires { ⌜ Spreadable (now clashes) (now starts) (now lo) (now hi) (now done) × (k < length (now starts))
+    requires { ⌜ Spreadable (now clashes) (now starts) (now next) (now lo) (now hi) (now done) × (k < length (now starts))
         × Closed (length (now starts)) (clears-on (now starts)) (at (now lo)) (at (now hi)) ⌝ }
     ensures { λ r. ⌜ Settles (now (starts .entry)) k (now (lo .entry)) (now (hi .entry)) r (now (lo .exit)) (now (hi .exit)) (now (done .exit)) ⌝ }
 {
     if lo[k] == hi[k] {
         return true;
     }
-    if settle_low(clashes, starts, lo, hi, done, k) {
+    if settle_low(clashes, starts, next, lo, hi, done, k) {
         return true;
     }
     lo[k] = hi[k];
-    spread(clashes, starts, lo, hi, done)
+    spread(clashes, starts, next, lo, hi, done)
 }
 
 // The first solution, in the first of the two buffers, where all that have one option are closed.
 fn solve(
     clashes: &[u8; 400],
     starts: &[u16],
+    next: &[u8],
     lo: &mut [u8],
     hi: &mut [u8],
     done: &mut [u8],
 ) -> bool
-    requires { ⌜ Spreadable (now clashes) (now starts) (now lo) (now hi) (now done)
+    requires { ⌜ Spreadable (now clashes) (now starts) (now next) (now lo) (now hi) (now done)
         × Closed (length (now starts)) (clears-on (now starts)) (at (now lo)) (at (now hi)) ⌝ }
     ensures { λ r. ⌜ Solves (now (starts .entry)) (now (lo .entry)) (now (hi .entry)) r (now (lo .exit)) (now (hi .exit)) ⌝ }
 {
     for k in 0..starts.len() {
-        if !settle(clashes, starts, lo, hi, done, k) {
+        if !settle(clashes, starts, next, lo, hi, done, k) {
             return false;
         }
     }
@@ -324,24 +339,26 @@ fn is_before(count: usize, a: &[u8], b: &[u8]) -> bool
 fn try_options(
     clashes: &[u8; 400],
     starts: &[u16],
+    next: &[u8],
     lo: &mut [u8],
     hi: &mut [u8],
     have: bool,
     best: &mut [u8],
 ) -> bool
-    requires { ⌜ Sited (now clashes) (now starts) × Held (length (now starts)) (now lo) (now hi) × (length (now best) ≡ 128) ⌝ }
+    requires { ⌜ Sited (now clashes) (now starts) × Held (length (now starts)) (now lo) (now hi) × (length (now best) ≡ 128)
+        × Listed (length (now starts)) (clears-on (now starts)) (Option (at (now lo)) (at (now hi))) (now next) ⌝ }
     ensures { λ r. ⌜ (length (now (lo .exit)) ≡ 128) × (length (now (hi .exit)) ≡ 128) × (length (now (best .exit)) ≡ 128)
         × Takes (now (starts .entry)) (now (lo .entry)) (now (hi .entry)) have (now (best .entry)) r (now (best .exit)) ⌝ }
 {
     let count = starts.len();
     let mut done = [0u8; 128];
-    if !spread(clashes, starts, lo, hi, &mut done) {
+    if !spread(clashes, starts, next, lo, hi, &mut done) {
         return have;
     }
     if have & !is_before(count, lo, best) {
         return true;
     }
-    if !solve(clashes, starts, lo, hi, &mut done) {
+    if !solve(clashes, starts, next, lo, hi, &mut done) {
         return have;
     }
     if have & !is_before(count, lo, best) {
@@ -352,15 +369,7 @@ fn try_options(
 }
 
 // Whether direction d is allowed to fault k, at p, alone and by the pair (a, b).
-fn is_offered(
-    columns: bool,
-    a: usize,
-    b: usize,
-    table: &[u8],
-    p: usize,
-    k: usize,
-    d: u8,
-) -> bool
+fn is_offered(columns: bool, a: usize, b: usize, table: &[u8], p: usize, k: usize, d: u8) -> bool
     requires { ⌜ (length (now table) ≡ 512) × (k < 128) × (1 ≤ d) × (d ≤ 4) ⌝ }
     ensures { λ r. ⌜ r ≡ (alone-in (now (table .entry)) k d && leaves columns a b p d) ⌝ }
 {
@@ -406,13 +415,14 @@ fn try_pair(
     clashes: &[u8; 400],
     starts: &[u16],
     table: &[u8],
+    next: &[u8],
     columns: bool,
     a: usize,
     b: usize,
     have: bool,
     best: &mut [u8],
 ) -> bool
-    requires { ⌜ Ready (now clashes) (now starts) (now table) (now best) × (tried columns a b ≡ true) ⌝ }
+    requires { ⌜ Ready (now clashes) (now starts) (now table) (now next) (now best) × (tried columns a b ≡ true) ⌝ }
     ensures { λ r. ⌜ (length (now (best .exit)) ≡ 128) × Bettered (now (starts .entry)) (now (table .entry))
         (Left-by columns a b (now (starts .entry))) have (now (best .entry)) r (now (best .exit)) ⌝ }
 {
@@ -421,7 +431,7 @@ fn try_pair(
     if !set_options(columns, a, b, starts, table, &mut lo, &mut hi) {
         return have;
     }
-    try_options(clashes, starts, &mut lo, &mut hi, have, best)
+    try_options(clashes, starts, next, &mut lo, &mut hi, have, best)
 }
 
 // The position of an end.
@@ -450,13 +460,14 @@ fn try_ends(
     clashes: &[u8; 400],
     starts: &[u16],
     table: &[u8],
+    next: &[u8],
     columns: bool,
     a: usize,
     b: usize,
     have: bool,
     best: &mut [u8],
 ) -> bool
-    requires { ⌜ Ready (now clashes) (now starts) (now table) (now best) ⌝ }
+    requires { ⌜ Ready (now clashes) (now starts) (now table) (now next) (now best) ⌝ }
     ensures { λ r. ⌜ (length (now (best .exit)) ≡ 128) × Bettered (now (starts .entry)) (now (table .entry))
         (λ q. Covered (length (now (starts .entry))) (at (now (starts .entry))) q columns a b) have (now (best .entry)) r (now (best .exit)) ⌝ }
 {
@@ -468,7 +479,7 @@ fn try_ends(
     if !is_tried(columns, p, q) {
         return have;
     }
-    try_pair(clashes, starts, table, columns, p, q, have, best)
+    try_pair(clashes, starts, table, next, columns, p, q, have, best)
 }
 
 // The best plan so far, and those that any pair with fault a leaves.
@@ -476,12 +487,13 @@ fn try_row(
     clashes: &[u8; 400],
     starts: &[u16],
     table: &[u8],
+    next: &[u8],
     columns: bool,
     a: usize,
     had: bool,
     best: &mut [u8],
 ) -> bool
-    requires { ⌜ Ready (now clashes) (now starts) (now table) (now best) ⌝ }
+    requires { ⌜ Ready (now clashes) (now starts) (now table) (now next) (now best) ⌝ }
     ensures { λ r. ⌜ (length (now (best .exit)) ≡ 128) × Bettered (now (starts .entry)) (now (table .entry))
         (Row-covered columns (now (starts .entry)) a) had (now (best .entry)) r (now (best .exit)) ⌝ }
 {
@@ -491,7 +503,7 @@ fn try_row(
     }
     let mut have = had;
     for b in 0..count + 1 {
-        have = try_ends(clashes, starts, table, columns, a, b, have, best);
+        have = try_ends(clashes, starts, table, next, columns, a, b, have, best);
     }
     have
 }
@@ -501,17 +513,18 @@ fn try_pairs(
     clashes: &[u8; 400],
     starts: &[u16],
     table: &[u8],
+    next: &[u8],
     columns: bool,
     had: bool,
     best: &mut [u8],
 ) -> bool
-    requires { ⌜ Ready (now clashes) (now starts) (now table) (now best) ⌝ }
+    requires { ⌜ Ready (now clashes) (now starts) (now table) (now next) (now best) ⌝ }
     ensures { λ r. ⌜ (length (now (best .exit)) ≡ 128) × Bettered (now (starts .entry)) (now (table .entry))
         (Some-covered columns (now (starts .entry))) had (now (best .entry)) r (now (best .exit)) ⌝ }
 {
     let mut have = had;
     for a in 0..starts.len() + 1 {
-        have = try_row(clashes, starts, table, columns, a, have, best);
+        have = try_row(clashes, starts, table, next, columns, a, have, best);
     }
     have
 }
@@ -543,6 +556,75 @@ fn have_paths(count: usize, table: &[u8]) -> bool
     true
 }
 
+// Whether direction d of fault f and direction e of fault g are both allowed alone, and their paths clash.
+fn does_clash(
+    clashes: &[u8; 400],
+    starts: &[u16],
+    table: &[u8],
+    f: usize,
+    d: u8,
+    g: usize,
+    e: u8,
+) -> bool
+    requires { ⌜ Sited (now clashes) (now starts) × (f < length (now starts)) × (g < length (now starts)) × (f ≡ g → ⊥)
+        × (1 ≤ d) × (d ≤ 4) × (1 ≤ e) × (e ≤ 4) × (length (now table) ≡ 512) ⌝ }
+    ensures { λ r. ⌜ (r ≡ false → alone-in (now (table .entry)) f d ≡ true → alone-in (now (table .entry)) g e ≡ true
+        → clears-on (now (starts .entry)) f d g e ≡ true) ⌝ }
+{
+    if !(table[4 * f + d as usize - 1] == 1) {
+        return false;
+    }
+    if !(table[4 * g + e as usize - 1] == 1) {
+        return false;
+    }
+    !does_pass(clashes, starts, f, d, g, e)
+}
+
+// Whether two faults may clash: in some of their directions that are allowed alone.
+fn may_clash(clashes: &[u8; 400], starts: &[u16], table: &[u8], f: usize, g: usize) -> bool
+    requires { ⌜ Sited (now clashes) (now starts) × (f < length (now starts)) × (g < length (now starts))
+        × (length (now table) ≡ 512) ⌝ }
+    ensures { λ r. ⌜ Judged r (f ≡ g → ⊥)
+        ((f ≡ g → ⊥) → Passes (clears-on (now (starts .entry))) (Alone (now (table .entry))) f g) ⌝ }
+{
+    if f == g {
+        return false;
+    }
+    for i in 0..16u8 {
+        if does_clash(clashes, starts, table, f, i / 4 + 1, g, i % 4 + 1) {
+            return true;
+        }
+    }
+    false
+}
+
+// The list of fault f: for each fault the first from it on that may clash with f, or their number.
+fn list_row(clashes: &[u8; 400], starts: &[u16], table: &[u8], next: &mut [u8], f: usize)
+    requires { ⌜ Sited (now clashes) (now starts) × (length (now table) ≡ 512) × (length (now next) ≡ 16512)
+        × (f < length (now starts)) ⌝ }
+    ensures { λ _. ⌜ Row-listed (length (now (starts .entry))) (clears-on (now (starts .entry))) (Alone (now (table .entry))) f
+        (now (next .entry)) 0 (now (next .exit)) ⌝ }
+{
+    let mut g = starts.len();
+    next[129 * f + g] = g as u8;
+    while 0 < g {
+        g -= 1;
+        let clash = may_clash(clashes, starts, table, f, g);
+        next[129 * f + g] = pick(clash, g as u8, next[129 * f + g + 1]);
+    }
+}
+
+// The lists of all faults.
+fn list_rows(clashes: &[u8; 400], starts: &[u16], table: &[u8], next: &mut [u8])
+    requires { ⌜ Sited (now clashes) (now starts) × (length (now table) ≡ 512) × (length (now next) ≡ 16512) ⌝ }
+    ensures { λ _. ⌜ Listed (length (now (starts .entry))) (clears-on (now (starts .entry))) (Alone (now (table .entry)))
+        (now (next .exit)) ⌝ }
+{
+    for f in 0..starts.len() {
+        list_row(clashes, starts, table, next, f);
+    }
+}
+
 // The first of all plans, where there is one.
 fn find_best(n: usize, m: usize, grid: &[u8], starts: &[u16], best: &mut [u8]) -> bool
     requires { ⌜ Placed n m (now starts) × (length (now grid) ≡ 1024) × (length (now best) ≡ 128) × (now starts ≡ faults n m (now grid)) ⌝ }
@@ -555,8 +637,10 @@ fn find_best(n: usize, m: usize, grid: &[u8], starts: &[u16], best: &mut [u8]) -
         return false;
     }
     let clashes = paths::clash_table();
-    let rows = try_pairs(&clashes, starts, &table, false, false, best);
-    try_pairs(&clashes, starts, &table, true, rows, best)
+    let mut next = [0u8; 16512];
+    list_rows(&clashes, starts, &table, &mut next);
+    let rows = try_pairs(&clashes, starts, &table, &next, false, false, best);
+    try_pairs(&clashes, starts, &table, &next, true, rows, best)
 }
 
 // Writes the directions found, or 0 everywhere.
