@@ -339,6 +339,24 @@ impl Maker {
         case
     }
 
+    /// A map with very many faults: half or all of the processors, or most of those next to the spares, where there may be a
+    /// plan.
+    fn crowded(&mut self, array: Array) -> Case {
+        let mut case = self.healthy(array);
+        if self.one_in(2) {
+            self.any_faults(array, &mut case);
+            return case;
+        }
+        let share = self.pick(&[4, 64, LENGTH]);
+        for (x, y) in array.inner_cells() {
+            let at_rim = [1, array.rows].contains(&x) || [1, array.columns].contains(&y);
+            if at_rim && !self.one_in(share) {
+                case.grid[position((x, y))] = FAULTY;
+            }
+        }
+        case
+    }
+
     /// Gives every inner fault some direction.
     fn directed(&mut self, mut case: Case) -> Case {
         case.directions = vec![0; LENGTH];
@@ -708,7 +726,8 @@ impl Maker {
             0 => self.hard(),
             1 => self.hard_closed(),
             2 => self.core(large),
-            3..=66 => self.core(larger),
+            3..=6 => self.crowded(larger),
+            7..=66 => self.core(larger),
             67..=194 => self.closed(larger),
             195..=226 => self.near_rim(array),
             227..=258 => self.in_line(array),
