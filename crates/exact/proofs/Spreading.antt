@@ -46,10 +46,10 @@ module _ (count : ℕ) (clears : ℕ → ℕ → ℕ → ℕ → Bool) where
     pub narrowed : Narrowed count (at lo) (at hi) (at lo′) (at hi′)
     pub keeps : Keeps count clears (at lo) (at hi) (at lo′) (at hi′)
     pub marked : Marked count clears (at lo′) (at hi′) (at done)
-    pub next : Next count (at lo′) (at hi′) (at done) f
+    pub next : Next 0 count (at lo′) (at hi′) (at done) f
 
   pub spread-start : {lo hi done : List ℕ} {f : ℕ} → Held count lo hi → length done ≡ 128 → Marked count clears (at lo) (at hi) (at done)
-      → Next count (at lo) (at hi) (at done) f → Spreading lo hi lo hi done f
+      → Next 0 count (at lo) (at hi) (at done) f → Spreading lo hi lo hi done f
   spread-start {lo} {hi} h d m x = record {
     done-long = d;
     held = h;
@@ -65,7 +65,7 @@ module _ (count : ℕ) (clears : ℕ → ℕ → ℕ → ℕ → Bool) where
 
     pub spread-next : {lo″ hi″ : List ℕ} {g : ℕ} → f < count → Held count lo″ hi″
         → Struck count clears (at lo′) (at hi′) (at lo″) (at hi″) f
-        → Next count (at lo″) (at hi″) (at (set done f 1)) g → Spreading lo hi lo″ hi″ (set done f 1) g
+        → Next 0 count (at lo″) (at hi″) (at (set done f 1)) g → Spreading lo hi lo″ hi″ (set done f 1) g
     spread-next {lo″} {hi″} {g} l h t n = record {
       done-long = length-set done f 1 ∙ s .done-long;
       held = h;
@@ -84,7 +84,7 @@ module _ (count : ℕ) (clears : ℕ → ℕ → ℕ → ℕ → Bool) where
     spread-end h = record {
       narrowed = s .narrowed;
       keeps = s .keeps;
-      closed = λ j b e. s .marked j b (s .next .all h j b e);
+      closed = λ j b e. s .marked j b (s .next .all h j (omega arith) b e);
       marked = s .marked;
     }
 

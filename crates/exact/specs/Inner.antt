@@ -160,12 +160,12 @@ module _ (starts : List ℕ) where
       × Judged r (First-solution (length starts) (clears-on starts) (at lo) (at hi) (at lo′))
       (No-solution (length starts) (clears-on starts) (at lo) (at hi))
 
--- the first of these faults that has one option and is not marked, or their number
-pub record Next (count : ℕ) (lo hi done : ℕ → ℕ) (f : ℕ) : Type 0 where
+-- the first of these faults from a number on that has one option and is not marked, or how many there are
+pub record Next (from count : ℕ) (lo hi done : ℕ → ℕ) (f : ℕ) : Type 0 where
   pub within : f ≤ count
   pub one : f < count → lo f ≡ hi f
   pub new : f < count → done f ≡ 0
-  pub all : count ≤ f → (k : ℕ) → k < count → lo k ≡ hi k → done k ≡ 0 → ⊥
+  pub all : count ≤ f → (k : ℕ) → from ≤ k → k < count → lo k ≡ hi k → done k ≡ 0 → ⊥
 
 -- the directions allowed alone, as a table of four for each fault
 abbrev pub alone-in : List ℕ → ℕ → ℕ → Bool

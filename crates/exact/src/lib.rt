@@ -195,17 +195,29 @@ fn strike(
     true
 }
 
-// The first fault that has one option and is not marked, or their number.
-fn find_next(count: usize, lo: &[u8], hi: &[u8], done: &[u8]) -> usize
-    requires { ⌜ (count ≤ length (now lo)) × (count ≤ length (now hi)) × (count ≤ length (now done)) ⌝ }
-    ensures { λ r. ⌜ Next count (at (now (lo .entry))) (at (now (hi .entry))) (at (now (done .entry))) r ⌝ }
+// The first fault from `from` on that has one option and is not marked, or the number of all.
+fn find_from(from: usize, count: usize, lo: &[u8], hi: &[u8], done: &[u8]) -> usize
+    requires { ⌜ (from ≤ count) × (count ≤ length (now lo)) × (count ≤ length (now hi)) × (count ≤ length (now done)) ⌝ }
+    ensures { λ r. ⌜ Next from count (at (now (lo .entry))) (at (now (hi .entry))) (at (now (done .entry))) r ⌝ }
 {
-    for k in 0..count {
+    for k in from..count {
         if (lo[k] == hi[k]) & (done[k] == 0) {
             return k;
         }
     }
     count
+}
+
+// The first such fault from `from` on, else the first of all: few are passed over that were looked at before.
+fn find_next(from: usize, count: usize, lo: &[u8], hi: &[u8], done: &[u8]) -> usize
+    requires { ⌜ (from ≤ count) × (count ≤ length (now lo)) × (count ≤ length (now hi)) × (count ≤ length (now done)) ⌝ }
+    ensures { λ r. ⌜ Next 0 count (at (now (lo .entry))) (at (now (hi .entry))) (at (now (done .entry))) r ⌝ }
+{
+    let f = find_from(from, count, lo, hi, done);
+    if f < count {
+        return f;
+    }
+    find_from(0, count, lo, hi, done)
 }
 
 // Closes every fault that has one option, and those that then have one; false where a fault is left none.
@@ -221,13 +233,13 @@ fn spread(
     ensures { λ r. ⌜ Spreads (now (starts .entry)) (now (lo .entry)) (now (hi .entry)) r (now (lo .exit)) (now (hi .exit)) (now (done .exit)) ⌝ }
 {
     let count = starts.len();
-    let mut f = find_next(count, lo, hi, done);
+    let mut f = find_next(0, count, lo, hi, done);
     while f < count {
         if !strike(clashes, starts, next, lo, hi, f) {
             return false;
         }
         done[f] = 1;
-        f = find_next(count, lo, hi, done);
+        f = find_next(f + 1, count, lo, hi, done);
     }
     true
 }

@@ -21,6 +21,7 @@ abbrev μ-loop : tie.MeasureT-loop
 find-next-requires : tie.Need-find-next-requires Inv-loop μ-loop
 find-next-requires c κs =
     let s = c .before .before .before .before .before .before .before .before in (
+      omega arith,
       omega (arith, s .pre .held .room, s .pre .held .low-long),
       omega (arith, s .pre .held .room, s .pre .held .high-long),
       omega
@@ -69,13 +70,16 @@ slice-write-done c =
     let l = c .before .before .before .before .before .before .before .before .before .loop in
     let v = l .inv .1 in omega (arith, v .held .room, v .done-long, l .inv .0)
 
+add-find-next : tie.Need-add-find-next Inv-loop μ-loop
+add-find-next c = omega arith
+
 find-next-requires-2 : tie.Need-find-next-requires-2 Inv-loop μ-loop
 find-next-requires-2 c κs =
     let l = c .before .before .before .before .before .before .before .before .before .before .before .before .loop in
     let strike = c .before .before .before .before .before .before .before .before .strike in
     let h = strike .ensures .0 in
     let e = l .inv .1 .done-long in
-    (omega (arith, h .room, h .low-long), omega (arith, h .room, h .high-long), simp length-set (omega (arith, h .room, e)))
+    (omega arith, omega (arith, h .room, h .low-long), omega (arith, h .room, h .high-long), simp length-set (omega (arith, h .room, e)))
 
 loop-less : tie.Need-loop-less Inv-loop μ-loop
 loop-less c =
@@ -130,6 +134,7 @@ spread-spec =
     same-length-3
     returns
     slice-write-done
+    add-find-next
     find-next-requires-2
     loop-less
     loop-again
