@@ -5,3 +5,4 @@ pub mod Follows
 pub mod Refusals
 pub mod Dead
 pub mod Quick
+pub mod Exact
