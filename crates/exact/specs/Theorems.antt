@@ -14,13 +14,13 @@ use Rattle.exact.specs.Options.{Apart, Solution, Narrowed}
 use Rattle.exact.specs.Problem.{Crossing, Facing, Some-pair}
 use Rattle.exact.specs.Inner.{Closed}
 
--- lemma 1: a pair that is tried leaves no fault three directions
+-- a pair that is tried leaves no fault three directions
 abbrev pub Two-options : Type 0
 Two-options =
     (columns : Bool) (a b p d e f : ℕ) → tried columns a b ≡ true → 1 ≤ d → d < e → e < f → f ≤ 4
     → leaves columns a b p d ≡ true → leaves columns a b p e ≡ true → leaves columns a b p f ≡ true → ⊥
 
--- lemma 2: some pair leaves every fault the direction that it has, where paths do not cross or run into each other
+-- some pair that is tried leaves every fault the direction that it has, where paths do not cross or run into each other
 abbrev pub Nothing-lost : Type 0
 Nothing-lost =
     (count : ℕ) (starts q : ℕ → ℕ) → ((k : ℕ) → k < count → (1 ≤ q k) × (q k ≤ 4))
@@ -30,7 +30,7 @@ Nothing-lost =
     → Facing count (λ k. row (starts k)) (λ k. column (starts k)) q
     → Some-pair count starts q
 
--- M1 to M5: the paths of a plan do not
+-- and the paths of a plan do not
 abbrev pub Paths-apart : Type 0
 Paths-apart =
     (n m count : ℕ) (starts q : ℕ → ℕ) → n ≤ 30 → m ≤ 30 → ((k : ℕ) → k < count → inner n m (starts k) ≡ true)
@@ -41,7 +41,7 @@ pub record Some-solution (count : ℕ) (clears : ℕ → ℕ → ℕ → ℕ →
   pub q : ℕ → ℕ
   pub is : Solution count clears lo hi q
 
--- lemma 3's heart: two options, some of them narrowed to one, and all that have one closed: where there was a solution there is one
+-- Two options each, some narrowed to one, and every fault that has one closed: where there was a solution there still is one.
 abbrev pub Narrowing-keeps : Type 0
 Narrowing-keeps =
     (count : ℕ) (clears : ℕ → ℕ → ℕ → ℕ → Bool) → ((i d j e : ℕ) → clears i d j e ≡ clears j e i d)
