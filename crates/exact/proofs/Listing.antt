@@ -2,41 +2,45 @@
 -- Assumes nothing.
 use Prim.Native.Nat.{ℕ, _+_, _*_, _-_, _/_, _%_, _≤_, _<_}
 use mathlib.Core.Path.{_≡_, refl, sym, ap, subst, _∙_}
-use mathlib.Core.Bool.{Bool, true, false, cond}
+use mathlib.Core.Bool.{Bool, true, _&&_}
 use mathlib.Core.Logic.{_⊎_, inl, inr, ⊎-elim}
 use mathlib.Core.List.{List}
 use native.Mathlib.Omega.{arith}
 use borrow.Author.Count.{below-more}
+use borrow.Author.Tests.{ltb-true}
+use lib.Dec.{ltb}
 use lib.ListN.{length, set, length-set}
 use lib.Seq.{getD-set-same, getD-set-other}
 use Rattle.array.proofs.Bools.{and-true, by-eq, by-lt}
 use Rattle.exact.specs.Masks.{leaves}
 use Rattle.exact.specs.Options.{at, Narrowed}
-use Rattle.exact.specs.Inner.{Judged, clears-on, Option, Passes, Skips, Listed, Row-listed, Alone, alone-in, Offers}
+use Rattle.exact.specs.Inner.{clears-on, Option, Passes, Row, Listed, Row-listed, Alone, alone-in, Offers}
 use Rattle.exact.proofs.Options.{low-in, high-in}
 
-pub skips-at : {count : ℕ} {clears : ℕ → ℕ → ℕ → ℕ → Bool} {may : ℕ → ℕ → Type 0} {next : List ℕ} → Listed count clears may next
-    → (f g i : ℕ) → f < count → g ≤ count → i ≡ 129 * f + g → Skips count clears may f g (at next i)
-skips-at l f g i b m e = rw e (l .skips f g b m)
-
 -- fewer directions
-pub listed-less : {count : ℕ} {clears : ℕ → ℕ → ℕ → ℕ → Bool} {may may′ : ℕ → ℕ → Type 0} {next : List ℕ}
-    → ((k x : ℕ) → k < count → may′ k x → may k x) → Listed count clears may next → Listed count clears may′ next
-listed-less {count} {clears} {may} {may′} {next} less l = record {
+pub listed-less : {count : ℕ} {clears : ℕ → ℕ → ℕ → ℕ → Bool} {may may′ : ℕ → ℕ → Type 0} {lists ends rest : List ℕ}
+    → ((k x : ℕ) → k < count → may′ k x → may k x) → Listed count clears may lists ends rest
+    → Listed count clears may′ lists ends rest
+listed-less {count} {clears} {may} {may′} less l = record {
   long = l .long;
-  skips = λ f g b m.
-      let s = l .skips f g b m in
-      let w = s .within in
+  ends-long = l .ends-long;
+  rest-long = l .rest-long;
+  rows = λ f b.
+      let r = l .rows f b in
+      let w = r .within in
       record {
-        from = s .from;
+        ordered = r .ordered;
         within = w;
-        other = s .other;
-        passes = λ h x y ne d e p q. s .passes h x y ne d e (less f d b p) (less h e (omega arith) q);
+        others = r .others;
+        covers = λ h x ne.
+            ⊎-elim (λ p. inl (λ d e u v. p d e (less f d b u) (less h e (omega arith) v))) (λ n. inr n)
+            (r .covers h x ne);
       };
 }
 
-pub still-listed : {count : ℕ} {clears : ℕ → ℕ → ℕ → ℕ → Bool} {lo hi lo′ hi′ : ℕ → ℕ} {next : List ℕ} → Narrowed count lo hi lo′ hi′
-    → Listed count clears (Option lo hi) next → Listed count clears (Option lo′ hi′) next
+pub still-listed : {count : ℕ} {clears : ℕ → ℕ → ℕ → ℕ → Bool} {lo hi lo′ hi′ : ℕ → ℕ} {lists ends rest : List ℕ}
+    → Narrowed count lo hi lo′ hi′ → Listed count clears (Option lo hi) lists ends rest
+    → Listed count clears (Option lo′ hi′) lists ends rest
 still-listed {count} {clears} {lo} {hi} {lo′} {hi′} t = listed-less less
   where
     less : (k x : ℕ) → k < count → Option lo′ hi′ k x → Option lo hi k x
@@ -44,8 +48,9 @@ still-listed {count} {clears} {lo} {hi} {lo′} {hi′} t = listed-less less
     less k x l (inr e) = ⊎-elim (λ f. inl (e ∙ f)) (λ f. inr (e ∙ f)) (high-in t k l)
 
 -- the options that a pair leaves are allowed alone
-pub offers-listed : {columns : Bool} {a b : ℕ} {starts table lo hi next : List ℕ} → Offers columns a b starts table lo hi
-    → Listed (length starts) (clears-on starts) (Alone table) next → Listed (length starts) (clears-on starts) (Option (at lo) (at hi)) next
+pub offers-listed : {columns : Bool} {a b : ℕ} {starts table lo hi lists ends rest : List ℕ}
+    → Offers columns a b starts table lo hi → Listed (length starts) (clears-on starts) (Alone table) lists ends rest
+    → Listed (length starts) (clears-on starts) (Option (at lo) (at hi)) lists ends rest
 offers-listed {columns} {a} {b} {starts} {table} {lo} {hi} o = listed-less less
   where
     less : (k x : ℕ) → k < length starts → Option (at lo) (at hi) k x → Alone table k x
@@ -87,85 +92,166 @@ module _ (starts table : List ℕ) (f g : ℕ) where
       let ey : j % 4 + 1 ≡ y = omega arith in
       subst (λ (e : ℕ). Clear-at x e) ey (subst (λ (d : ℕ). Clear-at d (j % 4 + 1)) ex (s .clear j (omega arith))) (p .2) (q .2)
 
--- place g of a row, from the next one
-skip-here : {count : ℕ} {clears : ℕ → ℕ → ℕ → ℕ → Bool} {may : ℕ → ℕ → Type 0} {b : Bool} {f g s : ℕ} → g < count
-    → Judged b (f ≡ g → ⊥) ((f ≡ g → ⊥) → Passes clears may f g) → Skips count clears may f (g + 1) s → Skips count clears may f g (cond b g s)
-skip-here {b = true} l t r = record {
-  from = omega arith;
-  within = omega arith;
-  other = t .yes refl;
-  passes = λ k x y. absurd (omega arith);
+-- a row whose places are as they were
+row-still : {count : ℕ} {clears : ℕ → ℕ → ℕ → ℕ → Bool} {may : ℕ → ℕ → Type 0} {lists lists′ : List ℕ}
+    {f begin end rest : ℕ} → ((i : ℕ) → i < end → at lists′ i ≡ at lists i)
+    → Row count clears may lists f begin end rest → Row count clears may lists′ f begin end rest
+row-still same r = record {
+  ordered = r .ordered;
+  within = r .within;
+  others = record {
+    fits = r .others .fits;
+    inside = λ i l u. rw (same i u) (r .others .inside i l u);
+    other = λ i l u e. r .others .other i l u (e ∙ same i u);
+  };
+  covers = λ h x ne.
+      ⊎-elim (λ p. inl p)
+      (λ n.
+      let e = same (n .place) (n .below) in
+      inr (record { place = n .place; from = n .from; below = n .below; is = e ∙ n .is }))
+      (r .covers h x ne);
 }
-skip-here {clears = clears} {may = may} {b = false} {f = f} {g = g} l t r =
-    let x = r .from in
-    record {
-      from = omega arith;
-      within = r .within;
-      other = r .other;
-      passes = λ k y z ne.
-          by-eq g k (λ (e : g ≡ k). subst (Passes clears may f) e (t .no refl (λ u. ne (u ∙ e))))
-          (λ o. r .passes k (omega arith) z ne);
+
+pub both-below : (a b x y : ℕ) → (ltb a b && ltb x y) ≡ true → (a < b) × (x < y)
+both-below a b x y h =
+    let p = and-true (ltb a b) (ltb x y) h in
+    (ltb-true a b (p .0), ltb-true x y (p .1))
+
+-- One row, from its begin: the faults below g are passed.
+module _ (count : ℕ) (clears : ℕ → ℕ → ℕ → ℕ → Bool) (may : ℕ → ℕ → Type 0) where
+  pub record Rowing (f begin : ℕ) (lists : List ℕ) (end g : ℕ) (lists′ : List ℕ) : Type 0 where
+    pub long : length lists′ ≡ 4096
+    pub same : (i : ℕ) → i < begin → at lists′ i ≡ at lists i
+    pub row : Row count clears may lists′ f begin end g
+
+  pub row-start : {f begin : ℕ} {lists : List ℕ} → length lists ≡ 4096 → begin ≤ 4096
+      → Rowing f begin lists begin 0 lists
+  row-start h b = record {
+    long = h;
+    same = λ i l. refl;
+    row = record {
+      ordered = omega arith;
+      within = omega arith;
+      others = record { fits = b; inside = λ i l u. absurd (omega arith); other = λ i l u. absurd (omega arith) };
+      covers = λ k l. absurd (omega arith);
+    };
+  }
+
+  module _ {f begin : ℕ} {lists : List ℕ} {end g : ℕ} {lists′ : List ℕ} (s : Rowing f begin lists end g lists′) where
+    pub row-pass : g < count → ((f ≡ g → ⊥) → Passes clears may f g) → Rowing f begin lists end (g + 1) lists′
+    row-pass l p = record {
+      long = s .long;
+      same = s .same;
+      row = record {
+        ordered = s .row .ordered;
+        within = omega arith;
+        others = s .row .others;
+        covers = λ h x ne.
+            by-eq g h (λ (e : g ≡ h). inl (subst (Passes clears may f) e (p (λ u. ne (u ∙ e)))))
+            (λ o. s .row .covers h (omega arith) ne);
+      };
     }
 
--- One row, from its end: its last place is the number of faults.
-abbrev ended : List ℕ → ℕ → ℕ → List ℕ
-ended next f count = set next (129 * f + count) count
+    pub row-name : g < count → end < 4096 → (f ≡ g → ⊥) → Rowing f begin lists (end + 1) (g + 1) (set lists′ end g)
+    row-name l m ne =
+        let long = s .long in
+        let ordered = s .row .ordered in
+        let here : at (set lists′ end g) end ≡ g = getD-set-same lists′ end g 0 (omega arith) in
+        let there : (i : ℕ) → i < end → at (set lists′ end g) i ≡ at lists′ i =
+        λ i u. getD-set-other lists′ end i g 0 (λ e. omega arith) in
+        let r = row-still {lists′ = set lists′ end g} there (s .row) in
+        record {
+          long = length-set lists′ end g ∙ s .long;
+          same = λ i u. there i (omega arith) ∙ s .same i u;
+          row = record {
+            ordered = omega arith;
+            within = omega arith;
+            others = record {
+              fits = omega arith;
+              inside = λ i u v.
+                  by-eq i end (λ (e : i ≡ end). rw (e, here) l) (λ o. r .others .inside i u (omega arith));
+              other = λ i u v x.
+                  by-eq i end (λ (e : i ≡ end). ne (x ∙ ap (at (set lists′ end g)) e ∙ here))
+                  (λ o. r .others .other i u (omega arith) x);
+            };
+            covers = λ h x o.
+                by-eq g h
+                (λ (e : g ≡ h). inr (record { place = end; from = ordered; below = omega arith; is = here ∙ e }))
+                (λ u.
+                ⊎-elim (λ p. inl p)
+                (λ n.
+                let b = n .below in
+                inr (record { place = n .place; from = n .from; below = omega arith; is = n .is }))
+                (r .covers h (omega arith) o));
+          };
+        }
 
-module _ {count : ℕ} {clears : ℕ → ℕ → ℕ → ℕ → Bool} {may : ℕ → ℕ → Type 0} {f : ℕ} (next : List ℕ) (below : f < count) (few : count ≤ 128) where
-  pub row-start : length next ≡ 16512 → Row-listed count clears may f (ended next f count) count (ended next f count)
-  row-start h = record {
-    long = length-set next (129 * f + count) count ∙ h;
-    same = λ i l. refl;
-    skips = λ j l m.
-        let e : j ≡ count = omega arith in
-        let v : at (ended next f count) (129 * f + count) ≡ count = getD-set-same next (129 * f + count) count 0 (omega arith) in
-        rw (e, v) (record { from = omega arith; within = omega arith; other = λ x. omega arith; passes = λ k x y. absurd (omega arith) });
-  }
-
-  pub row-end : {g : ℕ} {next′ : List ℕ} → Row-listed count clears may f (ended next f count) g next′ → g ≤ 0 → Row-listed count clears may f next 0 next′
-  row-end s h = record {
-    long = s .long;
-    same = λ i l. s .same i l ∙ getD-set-other next (129 * f + count) i count 0 (λ e. omega arith);
-    skips = λ j l m. s .skips j (omega arith) m;
-  }
-
-  pub row-next : {b : Bool} {g k v : ℕ} {next′ : List ℕ} → Row-listed count clears may f next k next′ → g + 1 ≡ k → g < count
-      → Judged b (f ≡ g → ⊥) ((f ≡ g → ⊥) → Passes clears may f g) → v ≡ cond b g (at next′ (129 * f + g + 1))
-      → Row-listed count clears may f next g (set next′ (129 * f + g) v)
-  row-next {b} {g} {k} {v} {next′} s e l t ev =
-      let long = s .long in
-      record {
-        long = length-set next′ (129 * f + g) v ∙ s .long;
-        same = λ i m. getD-set-other next′ (129 * f + g) i v 0 (λ x. omega arith) ∙ s .same i m;
-        skips = λ j x y.
-            by-eq j g
-            (λ (z : j ≡ g).
-            let w : at (set next′ (129 * f + g) v) (129 * f + g) ≡ v = getD-set-same next′ (129 * f + g) v 0 (omega arith) in
-            let a : 129 * f + g + 1 ≡ 129 * f + (g + 1) = omega arith in
-            rw (z, w, ev, a) (skip-here l t (s .skips (g + 1) (omega arith) (omega arith))))
-            (λ o.
-            let w : at (set next′ (129 * f + g) v) (129 * f + j) ≡ at next′ (129 * f + j) =
-            getD-set-other next′ (129 * f + g) (129 * f + j) v 0 (λ z. o (omega arith)) in
-            rw w (s .skips j (omega arith) y));
-      }
+    pub row-end : {ends rest : List ℕ} → begin ≡ at ends f → f < count → count ≤ 128 → length ends ≡ 129
+        → length rest ≡ 128 → Row-listed count clears may f lists ends rest lists′ (set ends (f + 1) end) (set rest f g)
+    row-end {ends} {rest} e l few a b =
+        let end-here : at (set ends (f + 1) end) (f + 1) ≡ end = getD-set-same ends (f + 1) end 0 (omega arith) in
+        let rest-here : at (set rest f g) f ≡ g = getD-set-same rest f g 0 (omega arith) in
+        record {
+          long = s .long;
+          ends-long = length-set ends (f + 1) end ∙ a;
+          rest-long = length-set rest f g ∙ b;
+          same = λ i u. s .same i (omega arith);
+          same-ends = λ j u. getD-set-other ends (f + 1) j end 0 (λ x. omega arith);
+          same-rest = λ j u. getD-set-other rest f j g 0 (λ x. omega arith);
+          row = rw (end-here, rest-here, ← e) (s .row);
+        }
 
 -- The rows one after the other.
 module _ (count : ℕ) (clears : ℕ → ℕ → ℕ → ℕ → Bool) (may : ℕ → ℕ → Type 0) where
-  pub record Listing (f : ℕ) (next : List ℕ) : Type 0 where
-    pub long : length next ≡ 16512
-    pub skips : (j g : ℕ) → j < f → g ≤ count → Skips count clears may j g (at next (129 * j + g))
+  pub record Listing (f : ℕ) (lists ends rest : List ℕ) : Type 0 where
+    pub long : length lists ≡ 4096
+    pub ends-long : length ends ≡ 129
+    pub rest-long : length rest ≡ 128
+    pub last : at ends f ≤ 4096
+    pub ascend : (j : ℕ) → j < f → at ends (j + 1) ≤ at ends f
+    pub rows : (j : ℕ) → j < f → Row count clears may lists j (at ends j) (at ends (j + 1)) (at rest j)
 
-  pub rows-start : {next : List ℕ} → length next ≡ 16512 → Listing 0 next
-  rows-start h = record { long = h; skips = λ j g l. absurd (omega arith) }
-
-  pub rows-next : {f : ℕ} {next next′ : List ℕ} → count ≤ 128 → Listing f next → Row-listed count clears may f next 0 next′
-      → Listing (f + 1) next′
-  rows-next {f} {next} {next′} few s r = record {
-    long = r .long;
-    skips = λ j g l m.
-        by-lt j f (λ b. rw (r .same (129 * j + g) (omega arith)) (s .skips j g b m))
-        (λ b. let e : j ≡ f = omega arith in rw e (r .skips g (omega arith) m));
+  pub rows-start : {lists ends rest : List ℕ} → length lists ≡ 4096 → length ends ≡ 129 → length rest ≡ 128
+      → at ends 0 ≡ 0 → Listing 0 lists ends rest
+  rows-start a b c e = record {
+    long = a;
+    ends-long = b;
+    rest-long = c;
+    last = omega arith;
+    ascend = λ j l. absurd (omega arith);
+    rows = λ j l. absurd (omega arith);
   }
 
-  pub rows-end : {f : ℕ} {next : List ℕ} → Listing f next → count ≤ f → Listed count clears may next
-  rows-end s h = record { long = s .long; skips = λ j g l m. s .skips j g (omega arith) m }
+  pub rows-next : {f : ℕ} {lists ends rest lists′ ends′ rest′ : List ℕ} → Listing f lists ends rest
+      → Row-listed count clears may f lists ends rest lists′ ends′ rest′ → Listing (f + 1) lists′ ends′ rest′
+  rows-next {f} {lists} {ends} {rest} {lists′} {ends′} {rest′} s r =
+      let on = r .row .ordered in
+      record {
+        long = r .long;
+        ends-long = r .ends-long;
+        rest-long = r .rest-long;
+        last = r .row .others .fits;
+        ascend = λ j l.
+            by-lt j f
+            (λ b.
+            let e : at ends′ (j + 1) ≡ at ends (j + 1) = r .same-ends (j + 1) (omega arith) in
+            let a = s .ascend j b in
+            omega arith)
+            (λ b. let e : j ≡ f = omega arith in rw e (omega arith));
+        rows = λ j l.
+            by-lt j f
+            (λ b.
+            let a = s .ascend j b in
+            rw (r .same-ends j (omega arith), r .same-ends (j + 1) (omega arith), r .same-rest j b)
+            (row-still (λ i u. r .same i (omega arith)) (s .rows j b)))
+            (λ b. let e : j ≡ f = omega arith in rw (e, r .same-ends f (omega arith)) (r .row));
+      }
+
+  pub rows-end : {f : ℕ} {lists ends rest : List ℕ} → Listing f lists ends rest → count ≤ f
+      → Listed count clears may lists ends rest
+  rows-end s h = record {
+    long = s .long;
+    ends-long = s .ends-long;
+    rest-long = s .rest-long;
+    rows = λ j l. s .rows j (omega arith);
+  }

@@ -312,7 +312,8 @@ module _ (count : ℕ) (a b : List ℕ) where
     compare-end h = inl (λ j l. sym (s .same j (omega arith)))
 
 -- The two tries of one fault, over buffers that are copies.
-module _ {clashes starts next lo hi done : List ℕ} (k : ℕ) (s : Spreadable clashes starts next lo hi done) (below : k < length starts) where
+module _ {clashes starts lists ends rest lo hi done : List ℕ} (k : ℕ)
+    (s : Spreadable clashes starts lists ends rest lo hi done) (below : k < length starts) where
   abbrev faults : ℕ
   faults = length starts
 
@@ -320,7 +321,7 @@ module _ {clashes starts next lo hi done : List ℕ} (k : ℕ) (s : Spreadable c
   clear = clears-on starts
 
   pub down-ready : {low high marks : List ℕ} → low ≡ lo → high ≡ hi → marks ≡ done
-      → Spreadable clashes starts next low (set high k (at lo k)) marks
+      → Spreadable clashes starts lists ends rest low (set high k (at lo k)) marks
   down-ready {low} {high} {marks} x y z =
       rw (x, y, z) (record {
         sited = s .sited;
@@ -351,7 +352,7 @@ module _ {clashes starts next lo hi done : List ℕ} (k : ℕ) (s : Spreadable c
   }
 
   module _ {lo₁ hi₁ done₁ : List ℕ} (u : Unsettled faults clear k lo hi done lo₁ hi₁ done₁) where
-    pub up-ready : Spreadable clashes starts next (set lo₁ k (at hi₁ k)) hi₁ done₁
+    pub up-ready : Spreadable clashes starts lists ends rest (set lo₁ k (at hi₁ k)) hi₁ done₁
     up-ready =
         rw (u .same-low, u .same-high, u .same-done) (record {
           sited = s .sited;

@@ -1,4 +1,4 @@
--- The loop that closes one fault: every other fault keeps the options that pass with its one option.
+-- The loops that close one fault: every other fault keeps the options that pass with its one option.
 -- Assumes nothing.
 use Prim.Native.Nat.{ℕ, _+_, _≤_, _<_}
 use mathlib.Core.Path.{_≡_, refl, sym, ap, _∙_}
@@ -11,7 +11,7 @@ use lib.ListN.{length, set, length-set}
 use lib.Seq.{getD-set-same, getD-set-other, set-getD}
 use Rattle.array.proofs.Bools.{by-eq, by-lt, or-false}
 use Rattle.exact.specs.Options.{at, Solution, No-solution, Narrowed}
-use Rattle.exact.specs.Inner.{Judged, clears-on, Option, Skips, Held, Keeps, Struck, Strikes-one}
+use Rattle.exact.specs.Inner.{Judged, clears-on, Option, Named, Row, Held, Keeps, Striking, Struck, Strikes-one}
 use Rattle.exact.proofs.Options.{low-in, high-in, stays, still-one, still-ordered, narrow-none, narrow-more}
 
 -- answers
@@ -93,51 +93,33 @@ module _ (starts lo hi : List ℕ) (f d g : ℕ) where
     },
   )
 
-module _ (count : ℕ) (clears : ℕ → ℕ → ℕ → ℕ → Bool) (lo hi : List ℕ) (f : ℕ) where
-  pub record Striking (g : ℕ) (lo′ hi′ : List ℕ) : Type 0 where
-    pub within : g ≤ count
-    pub low-same : length lo′ ≡ length lo
-    pub high-same : length hi′ ≡ length hi
-    pub held : Held count lo′ hi′
-    pub narrowed : Narrowed count (at lo) (at hi) (at lo′) (at hi′)
-    pub keeps : Keeps count clears (at lo) (at hi) (at lo′) (at hi′)
-    pub passed : (j : ℕ) → j < g → (f ≡ j → ⊥) → (clears f (at lo f) j (at lo′ j) ≡ true) × (clears f (at lo f) j (at hi′ j) ≡ true)
-
 module _ (count : ℕ) (clears : ℕ → ℕ → ℕ → ℕ → Bool) (lo hi : List ℕ) (f : ℕ) (below : f < count) (one : at lo f ≡ at hi f) where
-  abbrev Now : ℕ → List ℕ → List ℕ → Type 0
-  Now g lo′ hi′ = Striking count clears lo hi f g lo′ hi′
+  abbrev Now : (ℕ → Type 0) → List ℕ → List ℕ → Type 0
+  Now P lo′ hi′ = Striking count clears lo hi f P lo′ hi′
 
-  pub strike-start : Held count lo hi → Now 0 lo hi
-  strike-start h = record {
-    within = omega arith;
+  pub strike-start : {P : ℕ → Type 0} → ((j : ℕ) → P j → ⊥) → Held count lo hi → Now P lo hi
+  strike-start none h = record {
     low-same = refl;
     high-same = refl;
     held = h;
     narrowed = narrow-none count (at lo) (at hi);
     keeps = λ q s. s;
-    passed = λ j l ne. absurd (omega arith);
+    passed = λ j l p. absurd (none j p);
   }
 
-  -- the list of f leads over faults that pass
-  pub strike-skip : {g i : ℕ} {lo′ hi′ : List ℕ} → Skips count clears (Option (at lo) (at hi)) f g i → Now g lo′ hi′ → Now i lo′ hi′
-  strike-skip {g} {i} {lo′} {hi′} k s =
-      let w = k .within in
-      record {
-        within = w;
-        low-same = s .low-same;
-        high-same = s .high-same;
-        held = s .held;
-        narrowed = s .narrowed;
-        keeps = s .keeps;
-        passed = λ j h ne.
-            by-lt j g (λ b. s .passed j b ne)
-            (λ b. (
-              k .passes j b h ne (at lo f) (at lo′ j) (inl refl) (low-in (s .narrowed) j (omega arith)),
-              k .passes j b h ne (at lo f) (at hi′ j) (inl refl) (high-in (s .narrowed) j (omega arith)),
-            ));
-      }
+  -- the same faults, or fewer
+  pub strike-less : {P Q : ℕ → Type 0} {lo′ hi′ : List ℕ} → ((j : ℕ) → j < count → Q j → (f ≡ j → ⊥) → P j)
+      → Now P lo′ hi′ → Now Q lo′ hi′
+  strike-less less s = record {
+    low-same = s .low-same;
+    high-same = s .high-same;
+    held = s .held;
+    narrowed = s .narrowed;
+    keeps = s .keeps;
+    passed = λ j l p ne. s .passed j l (less j l p ne) ne;
+  }
 
-  module _ {g : ℕ} {lo′ hi′ : List ℕ} (s : Now g lo′ hi′) (l : g < count) where
+  module _ {P : ℕ → Type 0} {lo′ hi′ : List ℕ} (s : Now P lo′ hi′) (g : ℕ) (l : g < count) where
     -- every solution has f's option
     has-one : (q : ℕ → ℕ) → Solution count clears (at lo′) (at hi′) q → q f ≡ at lo f
     has-one q z =
@@ -217,18 +199,17 @@ module _ (count : ℕ) (clears : ℕ → ℕ → ℕ → ℕ → Bool) (lo hi : 
         high-passes true false t x y e i = sym e
         high-passes false false t x y e i = absurd (false≢true t)
 
-        pub strike-next : Now (g + 1) lo″ hi″
-        strike-next =
+        strike-next : {Q : ℕ → Type 0} → ((j : ℕ) → Q j → (j ≡ g → ⊥) → P j) → Now Q lo″ hi″
+        strike-next less =
             let x = length-set lo′ g (cond a (at lo′ g) (at hi′ g)) in
             let y = length-set hi′ g (cond b (at hi′ g) (at lo′ g)) in
             record {
-              within = omega arith;
               low-same = x ∙ s .low-same;
               high-same = y ∙ s .high-same;
               held = still-held (s .held) x y narrow-here;
               narrowed = narrow-more (s .narrowed) narrow-here;
               keeps = λ q z. keeps-here q (s .keeps q z);
-              passed = λ j m o.
+              passed = λ j m k o.
                   by-eq j g
                   (λ (e : j ≡ g).
                   rw e (
@@ -236,26 +217,80 @@ module _ (count : ℕ) (clears : ℕ → ℕ → ℕ → ℕ → Bool) (lo hi : 
                     ap (clears f (at lo f) g) high-here ∙ high-passes a b h (at lo′ g) (at hi′ g) ea eb,
                   ))
                   (λ e.
-                  let p = s .passed j (omega arith) o in (
+                  let p = s .passed j m (less j k e) o in (
                     ap (clears f (at lo f) j) (low-there j e) ∙ p .0,
                     ap (clears f (at lo f) j) (high-there j e) ∙ p .1,
                   ));
             }
 
-        pub strike-on : {x y : ℕ} {l h : List ℕ} → x ≡ cond a (at lo′ g) (at hi′ g) → y ≡ cond b (at hi′ g) (at lo′ g)
-            → l ≡ set lo′ g x → h ≡ set hi′ g y → Now (g + 1) l h
-        strike-on ex ey el eh = rw (el, eh, ex, ey) strike-next
+        -- and the faults of Q are those of P and g
+        pub strike-on : {Q : ℕ → Type 0} {l h : List ℕ} → ((j : ℕ) → Q j → (j ≡ g → ⊥) → P j) → l ≡ lo″ → h ≡ hi″
+            → Now Q l h
+        strike-on less el eh = rw (el, eh) (strike-next less)
 
-  pub strike-end : {g : ℕ} {lo′ hi′ : List ℕ} → Now g lo′ hi′ → count ≤ g
-      → Struck count clears (at lo) (at hi) (at lo′) (at hi′) f
-  strike-end {g} {lo′} {hi′} s h =
-      let t = stays (s .narrowed) f below one in
+-- the faults in the places passed
+pub named-none : {lists : List ℕ} {i : ℕ} (j : ℕ) → Named lists i i j → ⊥
+named-none j n = omega (arith, n .from, n .below)
+
+pub named-less : {lists : List ℕ} {begin i : ℕ} (j : ℕ) → Named lists begin (i + 1) j → (j ≡ at lists i → ⊥)
+    → Named lists begin i j
+named-less {lists} {begin} {i} j n o =
+    let b = n .below in
+    record {
+      place = n .place;
+      from = n .from;
+      below = by-eq (n .place) i (λ e. absurd (o (sym (n .is) ∙ ap (at lists) e))) (λ u. omega arith);
+      is = n .is;
+    }
+
+pub named-all : {lists : List ℕ} {begin end i : ℕ} → end ≤ i → (j : ℕ) → Named lists begin end j → Named lists begin i j
+named-all h j n =
+    let b = n .below in
+    record { place = n .place; from = n .from; below = omega arith; is = n .is }
+
+-- the faults that row f names, then those from its rest on: the others pass
+module _ {count : ℕ} {clears : ℕ → ℕ → ℕ → ℕ → Bool} {lists lo hi : List ℕ} {f begin end rest : ℕ} (below : f < count)
+    (one : at lo f ≡ at hi f) (r : Row count clears (Option (at lo) (at hi)) lists f begin end rest)
+    {lo′ hi′ lo″ hi″ : List ℕ} (s : Striking count clears lo hi f (Named lists begin end) lo′ hi′)
+    (t : Striking count clears lo′ hi′ f (λ j. rest ≤ j) lo″ hi″) where
+  narrowed : Narrowed count (at lo) (at hi) (at lo″) (at hi″)
+  narrowed = narrow-more (s .narrowed) (t .narrowed)
+
+  -- an option left of two that pass
+  left-passes : {j x : ℕ} → (x ≡ at lo′ j) ⊎ (x ≡ at hi′ j)
+      → (clears f (at lo f) j (at lo′ j) ≡ true) × (clears f (at lo f) j (at hi′ j) ≡ true)
+      → clears f (at lo f) j x ≡ true
+  left-passes {j} h p = ⊎-elim (λ e. ap (clears f (at lo f) j) e ∙ p .0) (λ e. ap (clears f (at lo f) j) e ∙ p .1) h
+
+  passed : (j : ℕ) → j < count → (f ≡ j → ⊥)
+      → (clears f (at lo f) j (at lo″ j) ≡ true) × (clears f (at lo f) j (at hi″ j) ≡ true)
+  passed j l ne =
+      by-lt j rest
+      (λ b.
+      ⊎-elim
+      (λ p. (
+        p (at lo f) (at lo″ j) (inl refl) (low-in narrowed j l),
+        p (at lo f) (at hi″ j) (inl refl) (high-in narrowed j l),
+      ))
+      (λ n. let x = s .passed j l n ne in (
+        left-passes (low-in (t .narrowed) j l) x,
+        left-passes (high-in (t .narrowed) j l) x,
+      ))
+      (r .covers j b ne))
+      (λ b.
+      let x = t .passed j l b ne in
+      let e = sym (stays (s .narrowed) f below one .0) in
+      (ap (λ (z : ℕ). clears f z j (at lo″ j)) e ∙ x .0, ap (λ (z : ℕ). clears f z j (at hi″ j)) e ∙ x .1))
+
+  pub strike-end : Struck count clears (at lo) (at hi) (at lo″) (at hi″) f
+  strike-end =
+      let e = stays narrowed f below one in
       record {
-        narrowed = s .narrowed;
-        keeps = s .keeps;
+        narrowed = narrowed;
+        keeps = λ q z. t .keeps q (s .keeps q z);
         closed = record {
-          one = still-one (s .narrowed) f below one;
-          with-low = λ j l ne. ap (λ (x : ℕ). clears f x j (at lo′ j)) (t .0) ∙ s .passed j (omega arith) ne .0;
-          with-high = λ j l ne. ap (λ (x : ℕ). clears f x j (at hi′ j)) (t .0) ∙ s .passed j (omega arith) ne .1;
+          one = still-one narrowed f below one;
+          with-low = λ j l ne. ap (λ (x : ℕ). clears f x j (at lo″ j)) (e .0) ∙ passed j l ne .0;
+          with-high = λ j l ne. ap (λ (x : ℕ). clears f x j (at hi″ j)) (e .0) ∙ passed j l ne .1;
         };
       }

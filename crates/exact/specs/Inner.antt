@@ -49,25 +49,43 @@ Option lo hi k x = (x ≡ lo k) ⊎ (x ≡ hi k)
 abbrev pub Passes : (ℕ → ℕ → ℕ → ℕ → Bool) → (ℕ → ℕ → Type 0) → ℕ → ℕ → Type 0
 Passes clears may f h = (x y : ℕ) → may f x → may h y → clears f x h y ≡ true
 
--- The lists, a row of 129 places for each fault: place g of row f names the first fault from g on that may clash with f, or the
--- number of faults.
+-- fault h stands in one of these places of the lists
+pub record Named (lists : List ℕ) (begin end h : ℕ) : Type 0 where
+  pub place : ℕ
+  pub from : begin ≤ place
+  pub below : place < end
+  pub is : at lists place ≡ h
+
+-- in these places stand other faults than f
+pub record Others (count : ℕ) (lists : List ℕ) (f begin end : ℕ) : Type 0 where
+  pub fits : end ≤ 4096
+  pub inside : (i : ℕ) → begin ≤ i → i < end → at lists i < count
+  pub other : (i : ℕ) → begin ≤ i → i < end → f ≡ at lists i → ⊥
+
+-- The lists: row f has the places from ends f to ends (f + 1). It names every fault below rest f that may clash
+-- with f; those from rest f on are not listed.
 module _ (count : ℕ) (clears : ℕ → ℕ → ℕ → ℕ → Bool) (may : ℕ → ℕ → Type 0) where
-  -- the faults from g to s pass with f
-  pub record Skips (f g s : ℕ) : Type 0 where
-    pub from : g ≤ s
-    pub within : s ≤ count
-    pub other : f ≡ s → ⊥
-    pub passes : (h : ℕ) → g ≤ h → h < s → (f ≡ h → ⊥) → Passes clears may f h
+  pub record Row (lists : List ℕ) (f begin end rest : ℕ) : Type 0 where
+    pub ordered : begin ≤ end
+    pub within : rest ≤ count
+    pub others : Others count lists f begin end
+    pub covers : (h : ℕ) → h < rest → (f ≡ h → ⊥) → Passes clears may f h ⊎ Named lists begin end h
 
-  pub record Listed (next : List ℕ) : Type 0 where
-    pub long : length next ≡ 16512
-    pub skips : (f g : ℕ) → f < count → g ≤ count → Skips f g (at next (129 * f + g))
+  pub record Listed (lists ends rest : List ℕ) : Type 0 where
+    pub long : length lists ≡ 4096
+    pub ends-long : length ends ≡ 129
+    pub rest-long : length rest ≡ 128
+    pub rows : (f : ℕ) → f < count → Row lists f (at ends f) (at ends (f + 1)) (at rest f)
 
-  -- row f is right from place g on, and the rows before it are as they were
-  pub record Row-listed (f : ℕ) (next : List ℕ) (g : ℕ) (next′ : List ℕ) : Type 0 where
-    pub long : length next′ ≡ 16512
-    pub same : (i : ℕ) → i < 129 * f → at next′ i ≡ at next i
-    pub skips : (j : ℕ) → g ≤ j → j ≤ count → Skips f j (at next′ (129 * f + j))
+  -- row f is right, and the rows before it are as they were
+  pub record Row-listed (f : ℕ) (lists ends rest lists′ ends′ rest′ : List ℕ) : Type 0 where
+    pub long : length lists′ ≡ 4096
+    pub ends-long : length ends′ ≡ 129
+    pub rest-long : length rest′ ≡ 128
+    pub same : (i : ℕ) → i < at ends f → at lists′ i ≡ at lists i
+    pub same-ends : (j : ℕ) → j ≤ f → at ends′ j ≡ at ends j
+    pub same-rest : (j : ℕ) → j < f → at rest′ j ≡ at rest j
+    pub row : Row lists′ f (at ends f) (at ends′ (f + 1)) (at rest′ f)
 
 module _ (count : ℕ) (clears : ℕ → ℕ → ℕ → ℕ → Bool) where
   -- the faults that are marked are closed
@@ -81,6 +99,16 @@ module _ (count : ℕ) (clears : ℕ → ℕ → ℕ → ℕ → Bool) where
   -- no solution is lost
   abbrev pub Keeps : (ℕ → ℕ) → (ℕ → ℕ) → (ℕ → ℕ) → (ℕ → ℕ) → Type 0
   Keeps lo hi lo′ hi′ = (q : ℕ → ℕ) → Solution count clears lo hi q → Solution count clears lo′ hi′ q
+
+  -- fault f, which has one option, passes with every option that the faults of P are left
+  pub record Striking (lo hi : List ℕ) (f : ℕ) (P : ℕ → Type 0) (lo′ hi′ : List ℕ) : Type 0 where
+    pub low-same : length lo′ ≡ length lo
+    pub high-same : length hi′ ≡ length hi
+    pub held : Held count lo′ hi′
+    pub narrowed : Narrowed count (at lo) (at hi) (at lo′) (at hi′)
+    pub keeps : Keeps (at lo) (at hi) (at lo′) (at hi′)
+    pub passed : (j : ℕ) → j < count → P j → (f ≡ j → ⊥)
+        → (clears f (at lo f) j (at lo′ j) ≡ true) × (clears f (at lo f) j (at hi′ j) ≡ true)
 
   -- fault f, which has one option, is closed
   pub record Struck (lo hi lo′ hi′ : ℕ → ℕ) (f : ℕ) : Type 0 where
@@ -111,10 +139,10 @@ pub record Unsettled (count : ℕ) (clears : ℕ → ℕ → ℕ → ℕ → Boo
   pub not-low : (q : ℕ → ℕ) → Solution count clears (at lo) (at hi) q → q k ≡ at lo k → ⊥
 
 -- what the propagation works over
-pub record Spreadable (clashes starts next lo hi done : List ℕ) : Type 0 where
+pub record Spreadable (clashes starts lists ends rest lo hi done : List ℕ) : Type 0 where
   pub sited : Sited clashes starts
   pub held : Held (length starts) lo hi
-  pub listed : Listed (length starts) (clears-on starts) (Option (at lo) (at hi)) next
+  pub listed : Listed (length starts) (clears-on starts) (Option (at lo) (at hi)) lists ends rest
   pub done-long : length done ≡ 128
   pub marked : Marked (length starts) (clears-on starts) (at lo) (at hi) (at done)
 
@@ -128,6 +156,13 @@ module _ (starts : List ℕ) where
       (r ≡ (a || b))
       × Judged r ((lo′ ≡ set lo g (cond a (at lo g) (at hi g))) × (hi′ ≡ set hi g (cond b (at hi g) (at lo g))))
       ((lo′ ≡ lo) × (hi′ ≡ hi))
+
+  -- the faults of P keep what passes with the one option of fault f
+  abbrev pub Strikes-those : (ℕ → Type 0) → List ℕ → List ℕ → ℕ → Bool → List ℕ → List ℕ → Type 0
+  Strikes-those P lo hi f r lo′ hi′ =
+      Held (length starts) lo′ hi′
+      × Judged r (Striking (length starts) (clears-on starts) lo hi f P lo′ hi′)
+      (No-solution (length starts) (clears-on starts) (at lo) (at hi))
 
   abbrev pub Strikes : List ℕ → List ℕ → ℕ → Bool → List ℕ → List ℕ → Type 0
   Strikes lo hi f r lo′ hi′ =
@@ -204,10 +239,10 @@ abbrev pub Alone : List ℕ → ℕ → ℕ → Type 0
 Alone table k d = (1 ≤ d) × (d ≤ 4) × (alone-in table k d ≡ true)
 
 -- what the pairs are tried over: the faults, their directions allowed alone, the lists, and room for the best plan
-pub record Ready (clashes starts table next best : List ℕ) : Type 0 where
+pub record Ready (clashes starts table lists ends rest best : List ℕ) : Type 0 where
   pub sited : Sited clashes starts
   pub table-long : length table ≡ 512
-  pub listed : Listed (length starts) (clears-on starts) (Alone table) next
+  pub listed : Listed (length starts) (clears-on starts) (Alone table) lists ends rest
   pub best-long : length best ≡ 128
 
 -- The best so far, where there is one, and the solutions of these options: none of either comes before what is kept.

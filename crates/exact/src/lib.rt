@@ -17,8 +17,9 @@ ghost use Rattle.exact.specs.Masks.{fits, exchanged, leaves, tried, end-
 ghost use Rattle.exact.specs.Options.{at, Later, Not-later};
 ghost use Rattle.exact.specs.Problem.{Covered};
 ghost use Rattle.exact.specs.Inner.{Judged, clears-on, Sited, Held, Spreadable, Closed, Next};
-ghost use Rattle.exact.specs.Inner.{Option, Passes, Listed, Row-listed, Alone};
-ghost use Rattle.exact.specs.Inner.{Strikes-one, Strikes, Spreads, Settles-low, Settles, Solves, Takes};
+ghost use Rattle.exact.specs.Inner.{Option, Passes, Named, Others, Listed, Row-listed, Alone};
+ghost use Rattle.exact.specs.Inner.{Strikes-one, Strikes-those, Strikes};
+ghost use Rattle.exact.specs.Inner.{Spreads, Settles-low, Settles, Solves, Takes};
 ghost use Rattle.exact.specs.Inner.{alone-in, lowest, highest, Offers, Starved, Stuck, Placed, Tabled};
 ghost use Rattle.exact.specs.Inner.{Ready, Bettered, Left-by, Row-covered, Some-covered};
 
@@ -169,30 +170,82 @@ fn strike_one(
     true
 }
 
-// Fault f has one option. Takes from every other fault the options that do not pass with it; false where one is left none.
-// Only the faults that the list of f names are looked at.
-fn strike(
+// Fault f has one option. Takes from the faults in places begin to end of the lists the options that do not pass with
+// it; false where one is left none.
+fn strike_listed(
     clashes: &[u8; 400],
     starts: &[u16],
-    next: &[u8],
+    lists: &[u8],
+    begin: usize,
+    end: usize,
     lo: &mut [u8],
     hi: &mut [u8],
     f: usize,
 ) -> bool
-    requires { ⌜ Sited (now clashes) (now starts) × Held (length (now starts)) (now lo) (now hi) × (f < length (now starts))
-        × (at (now lo) f ≡ at (now hi) f)
-        × Listed (length (now starts)) (clears-on (now starts)) (Option (at (now lo)) (at (now hi))) (now next) ⌝ }
-    ensures { λ r. ⌜ Strikes (now (starts .entry)) (now (lo .entry)) (now (hi .entry)) f r (now (lo .exit)) (now (hi .exit)) ⌝ }
+    requires { ⌜ Sited (now clashes) (now starts) × Held (length (now starts)) (now lo) (now hi)
+        × (f < length (now starts)) × (at (now lo) f ≡ at (now hi) f) × (length (now lists) ≡ 4096)
+        × Others (length (now starts)) (now lists) f begin end ⌝ }
+    ensures { λ r. ⌜ Strikes-those (now (starts .entry)) (Named (now (lists .entry)) begin end) (now (lo .entry))
+        (now (hi .entry)) f r (now (lo .exit)) (now (hi .exit)) ⌝ }
 {
     let d = lo[f];
-    let mut g = next[129 * f] as usize;
-    while g < starts.len() {
-        if !strike_one(clashes, starts, lo, hi, f, d, g) {
+    for i in begin..end {
+        if !strike_one(clashes, starts, lo, hi, f, d, lists[i] as usize) {
             return false;
         }
-        g = next[129 * f + g + 1] as usize;
     }
     true
+}
+
+// The same for every fault from this one on, except f.
+fn strike_rest(
+    clashes: &[u8; 400],
+    starts: &[u16],
+    from: usize,
+    lo: &mut [u8],
+    hi: &mut [u8],
+    f: usize,
+) -> bool
+    requires { ⌜ Sited (now clashes) (now starts) × Held (length (now starts)) (now lo) (now hi)
+        × (f < length (now starts)) × (at (now lo) f ≡ at (now hi) f) ⌝ }
+    ensures { λ r. ⌜ Strikes-those (now (starts .entry)) (λ j. from ≤ j) (now (lo .entry)) (now (hi .entry)) f r
+        (now (lo .exit)) (now (hi .exit)) ⌝ }
+{
+    let d = lo[f];
+    for g in from..starts.len() {
+        if g != f {
+            if !strike_one(clashes, starts, lo, hi, f, d, g) {
+                return false;
+            }
+        }
+    }
+    true
+}
+
+// The same for every other fault: those that row f names, and those from its rest on. The faults between pass.
+fn strike(
+    clashes: &[u8; 400],
+    starts: &[u16],
+    lists: &[u8],
+    ends: &[u16],
+    rest: &[u8],
+    lo: &mut [u8],
+    hi: &mut [u8],
+    f: usize,
+) -> bool
+    requires { ⌜ Sited (now clashes) (now starts) × Held (length (now starts)) (now lo) (now hi)
+        × (f < length (now starts)) × (at (now lo) f ≡ at (now hi) f)
+        × Listed (length (now starts)) (clears-on (now starts)) (Option (at (now lo)) (at (now hi)))
+        (now lists) (now ends) (now rest) ⌝ }
+    ensures { λ r. ⌜ Strikes (now (starts .entry)) (now (lo .entry)) (now (hi .entry)) f r
+        (now (lo .exit)) (now (hi .exit)) ⌝ }
+{
+    let begin = ends[f] as usize;
+    let end = ends[f + 1] as usize;
+    if !strike_listed(clashes, starts, lists, begin, end, lo, hi, f) {
+        return false;
+    }
+    strike_rest(clashes, starts, rest[f] as usize, lo, hi, f)
 }
 
 // The first fault from `from` on that has one option and is not marked, or the number of all.
@@ -224,18 +277,21 @@ fn find_next(from: usize, count: usize, lo: &[u8], hi: &[u8], done: &[u8]) -> us
 fn spread(
     clashes: &[u8; 400],
     starts: &[u16],
-    next: &[u8],
+    lists: &[u8],
+    ends: &[u16],
+    rest: &[u8],
     lo: &mut [u8],
     hi: &mut [u8],
     done: &mut [u8],
 ) -> bool
-    requires { ⌜ Spreadable (now clashes) (now starts) (now next) (now lo) (now hi) (now done) ⌝ }
+    requires { ⌜ Spreadable (now clashes) (now starts) (now lists) (now ends) (now rest)
+        (now lo) (now hi) (now done) ⌝ }
     ensures { λ r. ⌜ Spreads (now (starts .entry)) (now (lo .entry)) (now (hi .entry)) r (now (lo .exit)) (now (hi .exit)) (now (done .exit)) ⌝ }
 {
     let count = starts.len();
     let mut f = find_next(0, count, lo, hi, done);
     while f < count {
-        if !strike(clashes, starts, next, lo, hi, f) {
+        if !strike(clashes, starts, lists, ends, rest, lo, hi, f) {
             return false;
         }
         done[f] = 1;
@@ -258,13 +314,16 @@ fn copy(from: &[u8], to: &mut [u8])
 fn settle_low(
     clashes: &[u8; 400],
     starts: &[u16],
-    next: &[u8],
+    lists: &[u8],
+    ends: &[u16],
+    rest: &[u8],
     lo: &mut [u8],
     hi: &mut [u8],
     done: &mut [u8],
     k: usize,
 ) -> bool
-    requires { ⌜ Spreadable (now clashes) (now starts) (now next) (now lo) (now hi) (now done) × (k < length (now starts))
+    requires { ⌜ Spreadable (now clashes) (now starts) (now lists) (now ends) (now rest)
+        (now lo) (now hi) (now done) × (k < length (now starts))
         × (at (now lo) k < at (now hi) k) ⌝ }
     ensures { λ r. ⌜ Settles-low (now (starts .entry)) k (now (lo .entry)) (now (hi .entry)) (now (done .entry)) r
         (now (lo .exit)) (now (hi .exit)) (now (done .exit)) ⌝ }
@@ -276,7 +335,16 @@ fn settle_low(
     copy(hi, &mut high);
     copy(done, &mut marks);
     high[k] = lo[k];
-    if !spread(clashes, starts, next, &mut low, &mut high, &mut marks) {
+    if !spread(
+        clashes,
+        starts,
+        lists,
+        ends,
+        rest,
+        &mut low,
+        &mut high,
+        &mut marks,
+    ) {
         return false;
     }
     copy(&low, lo);
@@ -289,41 +357,46 @@ fn settle_low(
 fn settle(
     clashes: &[u8; 400],
     starts: &[u16],
-    next: &[u8],
+    lists: &[u8],
+    ends: &[u16],
+    rest: &[u8],
     lo: &mut [u8],
     hi: &mut [u8],
     done: &mut [u8],
     k: usize,
 ) -> bool
-    requires { ⌜ Spreadable (now clashes) (now starts) (now next) (now lo) (now hi) (now done) × (k < length (now starts))
+    requires { ⌜ Spreadable (now clashes) (now starts) (now lists) (now ends) (now rest)
+        (now lo) (now hi) (now done) × (k < length (now starts))
         × Closed (length (now starts)) (clears-on (now starts)) (at (now lo)) (at (now hi)) ⌝ }
     ensures { λ r. ⌜ Settles (now (starts .entry)) k (now (lo .entry)) (now (hi .entry)) r (now (lo .exit)) (now (hi .exit)) (now (done .exit)) ⌝ }
 {
     if lo[k] == hi[k] {
         return true;
     }
-    if settle_low(clashes, starts, next, lo, hi, done, k) {
+    if settle_low(clashes, starts, lists, ends, rest, lo, hi, done, k) {
         return true;
     }
     lo[k] = hi[k];
-    spread(clashes, starts, next, lo, hi, done)
+    spread(clashes, starts, lists, ends, rest, lo, hi, done)
 }
 
 // The first solution, in the first of the two buffers, where all that have one option are closed.
 fn solve(
     clashes: &[u8; 400],
     starts: &[u16],
-    next: &[u8],
+    lists: &[u8],
+    ends: &[u16],
+    rest: &[u8],
     lo: &mut [u8],
     hi: &mut [u8],
     done: &mut [u8],
 ) -> bool
-    requires { ⌜ Spreadable (now clashes) (now starts) (now next) (now lo) (now hi) (now done)
+    requires { ⌜ Spreadable (now clashes) (now starts) (now lists) (now ends) (now rest) (now lo) (now hi) (now done)
         × Closed (length (now starts)) (clears-on (now starts)) (at (now lo)) (at (now hi)) ⌝ }
     ensures { λ r. ⌜ Solves (now (starts .entry)) (now (lo .entry)) (now (hi .entry)) r (now (lo .exit)) (now (hi .exit)) ⌝ }
 {
     for k in 0..starts.len() {
-        if !settle(clashes, starts, next, lo, hi, done, k) {
+        if !settle(clashes, starts, lists, ends, rest, lo, hi, done, k) {
             return false;
         }
     }
@@ -351,26 +424,29 @@ fn is_before(count: usize, a: &[u8], b: &[u8]) -> bool
 fn try_options(
     clashes: &[u8; 400],
     starts: &[u16],
-    next: &[u8],
+    lists: &[u8],
+    ends: &[u16],
+    rest: &[u8],
     lo: &mut [u8],
     hi: &mut [u8],
     have: bool,
     best: &mut [u8],
 ) -> bool
     requires { ⌜ Sited (now clashes) (now starts) × Held (length (now starts)) (now lo) (now hi) × (length (now best) ≡ 128)
-        × Listed (length (now starts)) (clears-on (now starts)) (Option (at (now lo)) (at (now hi))) (now next) ⌝ }
+        × Listed (length (now starts)) (clears-on (now starts)) (Option (at (now lo)) (at (now hi)))
+        (now lists) (now ends) (now rest) ⌝ }
     ensures { λ r. ⌜ (length (now (lo .exit)) ≡ 128) × (length (now (hi .exit)) ≡ 128) × (length (now (best .exit)) ≡ 128)
         × Takes (now (starts .entry)) (now (lo .entry)) (now (hi .entry)) have (now (best .entry)) r (now (best .exit)) ⌝ }
 {
     let count = starts.len();
     let mut done = [0u8; 128];
-    if !spread(clashes, starts, next, lo, hi, &mut done) {
+    if !spread(clashes, starts, lists, ends, rest, lo, hi, &mut done) {
         return have;
     }
     if have & !is_before(count, lo, best) {
         return true;
     }
-    if !solve(clashes, starts, next, lo, hi, &mut done) {
+    if !solve(clashes, starts, lists, ends, rest, lo, hi, &mut done) {
         return have;
     }
     if have & !is_before(count, lo, best) {
@@ -427,14 +503,17 @@ fn try_pair(
     clashes: &[u8; 400],
     starts: &[u16],
     table: &[u8],
-    next: &[u8],
+    lists: &[u8],
+    ends: &[u16],
+    rest: &[u8],
     columns: bool,
     a: usize,
     b: usize,
     have: bool,
     best: &mut [u8],
 ) -> bool
-    requires { ⌜ Ready (now clashes) (now starts) (now table) (now next) (now best) × (tried columns a b ≡ true) ⌝ }
+    requires { ⌜ Ready (now clashes) (now starts) (now table) (now lists) (now ends) (now rest) (now best)
+        × (tried columns a b ≡ true) ⌝ }
     ensures { λ r. ⌜ (length (now (best .exit)) ≡ 128) × Bettered (now (starts .entry)) (now (table .entry))
         (Left-by columns a b (now (starts .entry))) have (now (best .entry)) r (now (best .exit)) ⌝ }
 {
@@ -443,7 +522,17 @@ fn try_pair(
     if !set_options(columns, a, b, starts, table, &mut lo, &mut hi) {
         return have;
     }
-    try_options(clashes, starts, next, &mut lo, &mut hi, have, best)
+    try_options(
+        clashes,
+        starts,
+        lists,
+        ends,
+        rest,
+        &mut lo,
+        &mut hi,
+        have,
+        best,
+    )
 }
 
 // The position of an end.
@@ -472,14 +561,16 @@ fn try_ends(
     clashes: &[u8; 400],
     starts: &[u16],
     table: &[u8],
-    next: &[u8],
+    lists: &[u8],
+    ends: &[u16],
+    rest: &[u8],
     columns: bool,
     a: usize,
     b: usize,
     have: bool,
     best: &mut [u8],
 ) -> bool
-    requires { ⌜ Ready (now clashes) (now starts) (now table) (now next) (now best) ⌝ }
+    requires { ⌜ Ready (now clashes) (now starts) (now table) (now lists) (now ends) (now rest) (now best) ⌝ }
     ensures { λ r. ⌜ (length (now (best .exit)) ≡ 128) × Bettered (now (starts .entry)) (now (table .entry))
         (λ q. Covered (length (now (starts .entry))) (at (now (starts .entry))) q columns a b) have (now (best .entry)) r (now (best .exit)) ⌝ }
 {
@@ -491,7 +582,19 @@ fn try_ends(
     if !is_tried(columns, p, q) {
         return have;
     }
-    try_pair(clashes, starts, table, next, columns, p, q, have, best)
+    try_pair(
+        clashes,
+        starts,
+        table,
+        lists,
+        ends,
+        rest,
+        columns,
+        p,
+        q,
+        have,
+        best,
+    )
 }
 
 // The best plan so far, and those that any pair with fault a leaves.
@@ -499,13 +602,15 @@ fn try_row(
     clashes: &[u8; 400],
     starts: &[u16],
     table: &[u8],
-    next: &[u8],
+    lists: &[u8],
+    ends: &[u16],
+    rest: &[u8],
     columns: bool,
     a: usize,
     had: bool,
     best: &mut [u8],
 ) -> bool
-    requires { ⌜ Ready (now clashes) (now starts) (now table) (now next) (now best) ⌝ }
+    requires { ⌜ Ready (now clashes) (now starts) (now table) (now lists) (now ends) (now rest) (now best) ⌝ }
     ensures { λ r. ⌜ (length (now (best .exit)) ≡ 128) × Bettered (now (starts .entry)) (now (table .entry))
         (Row-covered columns (now (starts .entry)) a) had (now (best .entry)) r (now (best .exit)) ⌝ }
 {
@@ -515,7 +620,19 @@ fn try_row(
     }
     let mut have = had;
     for b in 0..count + 1 {
-        have = try_ends(clashes, starts, table, next, columns, a, b, have, best);
+        have = try_ends(
+            clashes,
+            starts,
+            table,
+            lists,
+            ends,
+            rest,
+            columns,
+            a,
+            b,
+            have,
+            best,
+        );
     }
     have
 }
@@ -525,18 +642,31 @@ fn try_pairs(
     clashes: &[u8; 400],
     starts: &[u16],
     table: &[u8],
-    next: &[u8],
+    lists: &[u8],
+    ends: &[u16],
+    rest: &[u8],
     columns: bool,
     had: bool,
     best: &mut [u8],
 ) -> bool
-    requires { ⌜ Ready (now clashes) (now starts) (now table) (now next) (now best) ⌝ }
+    requires { ⌜ Ready (now clashes) (now starts) (now table) (now lists) (now ends) (now rest) (now best) ⌝ }
     ensures { λ r. ⌜ (length (now (best .exit)) ≡ 128) × Bettered (now (starts .entry)) (now (table .entry))
         (Some-covered columns (now (starts .entry))) had (now (best .entry)) r (now (best .exit)) ⌝ }
 {
     let mut have = had;
     for a in 0..starts.len() + 1 {
-        have = try_row(clashes, starts, table, next, columns, a, have, best);
+        have = try_row(
+            clashes,
+            starts,
+            table,
+            lists,
+            ends,
+            rest,
+            columns,
+            a,
+            have,
+            best,
+        );
     }
     have
 }
@@ -610,30 +740,52 @@ fn may_clash(clashes: &[u8; 400], starts: &[u16], table: &[u8], f: usize, g: usi
     false
 }
 
-// The list of fault f: for each fault the first from it on that may clash with f, or their number.
-fn list_row(clashes: &[u8; 400], starts: &[u16], table: &[u8], next: &mut [u8], f: usize)
-    requires { ⌜ Sited (now clashes) (now starts) × (length (now table) ≡ 512) × (length (now next) ≡ 16512)
-        × (f < length (now starts)) ⌝ }
+// Row f of the lists: the faults that may clash with f. Where the lists are full it ends, and the rest is not listed.
+fn list_row(
+    clashes: &[u8; 400],
+    starts: &[u16],
+    table: &[u8],
+    lists: &mut [u8],
+    ends: &mut [u16],
+    rest: &mut [u8],
+    f: usize,
+)
+    requires { ⌜ Sited (now clashes) (now starts) × (length (now table) ≡ 512) × (f < length (now starts))
+        × (length (now lists) ≡ 4096) × (length (now ends) ≡ 129) × (length (now rest) ≡ 128)
+        × (at (now ends) f ≤ 4096) ⌝ }
     ensures { λ _. ⌜ Row-listed (length (now (starts .entry))) (clears-on (now (starts .entry))) (Alone (now (table .entry))) f
-        (now (next .entry)) 0 (now (next .exit)) ⌝ }
+        (now (lists .entry)) (now (ends .entry)) (now (rest .entry))
+        (now (lists .exit)) (now (ends .exit)) (now (rest .exit)) ⌝ }
 {
-    let mut g = starts.len();
-    next[129 * f + g] = g as u8;
-    while 0 < g {
-        g -= 1;
-        let clash = may_clash(clashes, starts, table, f, g);
-        next[129 * f + g] = pick(clash, g as u8, next[129 * f + g + 1]);
+    let mut end = ends[f] as usize;
+    let mut g = 0;
+    while (g < starts.len()) & (end < 4096) {
+        if may_clash(clashes, starts, table, f, g) {
+            lists[end] = g as u8;
+            end += 1;
+        }
+        g += 1;
     }
+    ends[f + 1] = end as u16;
+    rest[f] = g as u8;
 }
 
-// The lists of all faults.
-fn list_rows(clashes: &[u8; 400], starts: &[u16], table: &[u8], next: &mut [u8])
-    requires { ⌜ Sited (now clashes) (now starts) × (length (now table) ≡ 512) × (length (now next) ≡ 16512) ⌝ }
+// The rows of all faults.
+fn list_rows(
+    clashes: &[u8; 400],
+    starts: &[u16],
+    table: &[u8],
+    lists: &mut [u8],
+    ends: &mut [u16],
+    rest: &mut [u8],
+)
+    requires { ⌜ Sited (now clashes) (now starts) × (length (now table) ≡ 512) × (length (now lists) ≡ 4096)
+        × (length (now ends) ≡ 129) × (length (now rest) ≡ 128) × (at (now ends) 0 ≡ 0) ⌝ }
     ensures { λ _. ⌜ Listed (length (now (starts .entry))) (clears-on (now (starts .entry))) (Alone (now (table .entry)))
-        (now (next .exit)) ⌝ }
+        (now (lists .exit)) (now (ends .exit)) (now (rest .exit)) ⌝ }
 {
     for f in 0..starts.len() {
-        list_row(clashes, starts, table, next, f);
+        list_row(clashes, starts, table, lists, ends, rest, f);
     }
 }
 
@@ -649,10 +801,32 @@ fn find_best(n: usize, m: usize, grid: &[u8], starts: &[u16], best: &mut [u8]) -
         return false;
     }
     let clashes = paths::clash_table();
-    let mut next = [0u8; 16512];
-    list_rows(&clashes, starts, &table, &mut next);
-    let rows = try_pairs(&clashes, starts, &table, &next, false, false, best);
-    try_pairs(&clashes, starts, &table, &next, true, rows, best)
+    let mut lists = [0u8; 4096];
+    let mut ends = [0u16; 129];
+    let mut rest = [0u8; 128];
+    list_rows(&clashes, starts, &table, &mut lists, &mut ends, &mut rest);
+    let rows = try_pairs(
+        &clashes,
+        starts,
+        &table,
+        &lists,
+        &ends,
+        &rest,
+        false,
+        false,
+        best,
+    );
+    try_pairs(
+        &clashes,
+        starts,
+        &table,
+        &lists,
+        &ends,
+        &rest,
+        true,
+        rows,
+        best,
+    )
 }
 
 // Writes the directions found, or 0 everywhere.

@@ -44,7 +44,7 @@ slice-aggregate-spread-3 c = search needs
 
 spread-requires : tie.Need-spread-requires
 spread-requires c κs =
-    let s = c .before .before .before .before .before .before .before .before .before .before .before .before .before .before .before .before .before .before .before .before .before in
+    let s = c .before .before .before .before .before .before .before .before .before .before .before .before .before .before .before .before .before .before .before .before .before .before .before in
     let copy = c .before .before .before .before .before .before .before .before .before .before .before .before .before .copy in
     let copy2 = c .before .before .before .before .before .before .before .before .before .copy2 in
     let copy3 = c .before .before .before .before .before .copy3 in
@@ -61,7 +61,7 @@ same-length-3 c = search needs
 
 returns : tie.Need-returns
 returns c =
-    let s = c .before .before .before .before .before .before .before .before .before .before .before .before .before .before .before .before .before .before .before .before .before .before .before .before .before .before in
+    let s = c .before .before .before .before .before .before .before .before .before .before .before .before .before .before .before .before .before .before .before .before .before .before .before .before .before .before .before .before in
     let copy = c .before .before .before .before .before .before .before .before .before .before .before .before .before .before .before .before .before .before .copy in
     let copy2 = c .before .before .before .before .before .before .before .before .before .before .before .before .before .before .copy2 in
     let spread = c .before .before .before .before .spread in (
@@ -75,14 +75,17 @@ slice-aggregate-copy-4 : tie.Need-slice-aggregate-copy-4
 slice-aggregate-copy-4 c = search needs
 
 copy-requires-4 : tie.Need-copy-requires-4
-copy-requires-4 c κs = search needs
+copy-requires-4 c κs =
+    let s = c .before .before .before .before .before .before .before .before .before .before .before .before .before .before .before .before .before .before .before .before .before .before .before .before .before .before .before .before .before .before in
+    let spread = c .before .before .before .before .before .before .spread in
+    (spread .ensures .0 .low-long, s .pre .0 .held .low-long)
 
 slice-aggregate-copy-5 : tie.Need-slice-aggregate-copy-5
 slice-aggregate-copy-5 c = search needs
 
 copy-requires-5 : tie.Need-copy-requires-5
 copy-requires-5 c κs =
-    let s = c .before .before .before .before .before .before .before .before .before .before .before .before .before .before .before .before .before .before .before .before .before .before .before .before .before .before .before .before .before .before .before .before .before in
+    let s = c .before .before .before .before .before .before .before .before .before .before .before .before .before .before .before .before .before .before .before .before .before .before .before .before .before .before .before .before .before .before .before .before .before .before .before in
     let spread = c .before .before .before .before .before .before .before .before .before .before .before .spread in
     (spread .ensures .0 .high-long, s .pre .0 .held .high-long)
 
@@ -91,7 +94,7 @@ slice-aggregate-copy-6 c = search needs
 
 copy-requires-6 : tie.Need-copy-requires-6
 copy-requires-6 c κs =
-    let s = c .before .before .before .before .before .before .before .before .before .before .before .before .before .before .before .before .before .before .before .before .before .before .before .before .before .before .before .before .before .before .before .before .before .before .before .before .before .before in
+    let s = c .before .before .before .before .before .before .before .before .before .before .before .before .before .before .before .before .before .before .before .before .before .before .before .before .before .before .before .before .before .before .before .before .before .before .before .before .before .before .before .before in
     let spread = c .before .before .before .before .before .before .before .before .before .before .before .before .before .before .before .before .spread in
     (spread .ensures .1, s .pre .0 .done-long)
 
@@ -106,7 +109,7 @@ same-length-6 c = search needs
 
 returns-2 : tie.Need-returns-2
 returns-2 c =
-    let s = c .before .before .before .before .before .before .before .before .before .before .before .before .before .before .before .before .before .before .before .before .before .before .before .before .before .before .before .before .before .before .before .before .before .before .before .before .before .before .before .before .before in
+    let s = c .before .before .before .before .before .before .before .before .before .before .before .before .before .before .before .before .before .before .before .before .before .before .before .before .before .before .before .before .before .before .before .before .before .before .before .before .before .before .before .before .before .before .before in
     let copy = c .before .before .before .before .before .before .before .before .before .before .before .before .before .before .before .before .before .before .before .before .before .before .before .before .before .before .before .before .before .before .before .before .before .copy in
     let copy2 = c .before .before .before .before .before .before .before .before .before .before .before .before .before .before .before .before .before .before .before .before .before .before .before .before .before .before .before .before .before .copy2 in
     let spread = c .before .before .before .before .before .before .before .before .before .before .before .before .before .before .before .before .before .before .before .spread in

@@ -12,15 +12,15 @@ use Rattle.exact.proofs.spread.Statement.{statement}
 use Rattle.exact.proofs.spread.Tie as tie
 
 abbrev Inv-loop : tie.InvT-loop
-Inv-loop clashes starts next lo₀ hi₀ done₀ count f₀ lo hi done f =
+Inv-loop clashes starts lists ends rest lo₀ hi₀ done₀ count f₀ lo hi done f =
     (count ≡ length starts) × Spreading (length starts) (clears-on starts) lo₀ hi₀ lo hi done f
 
 abbrev μ-loop : tie.MeasureT-loop
-μ-loop clashes starts next lo₀ hi₀ done₀ count f₀ lo hi done f = unmarked done
+μ-loop clashes starts lists ends rest lo₀ hi₀ done₀ count f₀ lo hi done f = unmarked done
 
 find-next-requires : tie.Need-find-next-requires Inv-loop μ-loop
 find-next-requires c κs =
-    let s = c .before .before .before .before .before .before .before .before in (
+    let s = c .before .before .before .before .before .before .before .before .before .before in (
       omega arith,
       omega (arith, s .pre .held .room, s .pre .held .low-long),
       omega (arith, s .pre .held .room, s .pre .held .high-long),
@@ -30,31 +30,31 @@ find-next-requires c κs =
 
 loop-holds : tie.Need-loop-holds Inv-loop μ-loop
 loop-holds c =
-    let s = c .before .before .before .before .before .before .before .before .before in
+    let s = c .before .before .before .before .before .before .before .before .before .before .before in
     (refl, spread-start _ _ (s .pre .held) (s .pre .done-long) (s .pre .marked) (c .find-next .ensures))
 
 strike-requires : tie.Need-strike-requires Inv-loop μ-loop
 strike-requires c κs =
-    let s = c .before .before .before .before .before .before .before .before .before .before .before .before .before in
+    let s = c .before .before .before .before .before .before .before .before .before .before .before .before .before .before .before in
     let l = c .before .before .before .loop in
     let v = l .inv .1 in
     (s .pre .sited, v .held, omega arith, v .next .one (omega arith), still-listed (v .narrowed) (s .pre .listed))
 
 same-length : tie.Need-same-length Inv-loop μ-loop
 same-length c =
-    let s = c .before .before .before .before .before .before .before .before .before .before .before .before .before .before .before .before .before .before .before in
+    let s = c .before .before .before .before .before .before .before .before .before .before .before .before .before .before .before .before .before .before .before .before .before in
     let strike = c .before .before .before .before .before .strike in
     strike .ensures .0 .low-long ∙ sym (s .pre .held .low-long)
 
 same-length-2 : tie.Need-same-length-2 Inv-loop μ-loop
 same-length-2 c =
-    let s = c .before .before .before .before .before .before .before .before .before .before .before .before .before .before .before .before .before .before .before in
+    let s = c .before .before .before .before .before .before .before .before .before .before .before .before .before .before .before .before .before .before .before .before .before in
     let strike = c .before .before .before .before .before .strike in
     strike .ensures .0 .high-long ∙ sym (s .pre .held .high-long)
 
 same-length-3 : tie.Need-same-length-3 Inv-loop μ-loop
 same-length-3 c =
-    let s = c .before .before .before .before .before .before .before .before .before .before .before .before .before .before .before .before .before .before .before in
+    let s = c .before .before .before .before .before .before .before .before .before .before .before .before .before .before .before .before .before .before .before .before .before in
     let l = c .before .before .before .before .before .before .before .before .before .loop in
     l .inv .1 .done-long ∙ sym (s .pre .done-long)
 
@@ -99,17 +99,17 @@ loop-again c =
 
 same-length-4 : tie.Need-same-length-4 Inv-loop μ-loop
 same-length-4 c =
-    let s = c .before .before .before .before .before .before .before .before .before .before .before in
+    let s = c .before .before .before .before .before .before .before .before .before .before .before .before .before in
     c .before .loop .inv .1 .held .low-long ∙ sym (s .pre .held .low-long)
 
 same-length-5 : tie.Need-same-length-5 Inv-loop μ-loop
 same-length-5 c =
-    let s = c .before .before .before .before .before .before .before .before .before .before .before in
+    let s = c .before .before .before .before .before .before .before .before .before .before .before .before .before in
     c .before .loop .inv .1 .held .high-long ∙ sym (s .pre .held .high-long)
 
 same-length-6 : tie.Need-same-length-6 Inv-loop μ-loop
 same-length-6 c =
-    let s = c .before .before .before .before .before .before .before .before .before .before .before in
+    let s = c .before .before .before .before .before .before .before .before .before .before .before .before .before in
     c .before .loop .inv .1 .done-long ∙ sym (s .pre .done-long)
 
 returns-2 : tie.Need-returns-2 Inv-loop μ-loop
