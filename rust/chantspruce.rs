@@ -290,8 +290,8 @@ pub fn plan_quickly(n: usize, m: usize, grid: &[u8], directions: &mut [u8], limi
     flat::plan_quickly(n, m, grid, directions, limit).outcome()
 }
 
-/// The same by the exact planner, which takes no limit and decides every map. Where [`plan_repair`] is not spent, both
-/// say the same and fill `directions` with the same plan. Refusals: 1 to 3.
+/// The same by the exact planner, which takes no limit and decides every map. The plan is the first of all plans; where
+/// [`plan_repair`] is not spent, both say the same and leave the same bytes in `directions`. Refusals: 1 to 3.
 pub fn plan_exactly(n: usize, m: usize, grid: &[u8], directions: &mut [u8]) -> Result<Decision, Refusal> {
     flat::plan_exactly(n, m, grid, directions).decision()
 }
@@ -514,7 +514,7 @@ pub mod flat {
             self.outcome().map(|outcome| Run { outcome, links: self.links })
         }
 
-        /// The exact planner's answer.
+        /// The exact planner's answer, of its own functions only.
         pub fn decision(self) -> Result<Decision, Refusal> {
             let decision = match self.outcome {
                 1 => Some(Decision::Repaired),
@@ -524,7 +524,7 @@ pub mod flat {
             answer(self.number, self.place, self.second, decision)
         }
 
-        /// The answer of a run with the exact planner.
+        /// The answer of a run with the exact planner, of that function only.
         pub fn decided_run(self) -> Result<Run<Decision>, Refusal> {
             self.decision().map(|outcome| Run { outcome, links: self.links })
         }

@@ -382,6 +382,529 @@ pub fn plan_quickly(n: usize, m: usize, grid: &[u8], directions: &mut [u8], limi
     Ok(find_quickly(n, m, grid, directions, limit))
 }
 
+// The exact planner.
+
+#[derive(Clone, Copy, Debug, PartialEq)]
+pub enum Decision {
+    Repaired,
+    Beyond,
+}
+
+/// Room for the faults: a plan has at most 120, as many as a 30 x 30 array has spares.
+const ROOM: usize = 128;
+
+/// Room for the faults that the lists name.
+const LISTED: usize = 2048;
+
+fn is_side(a: usize, b: usize, x: usize, y: usize) -> bool {
+    if a < b { x < y } else { y < x }
+}
+
+/// Whether the ends at (ua, va) and (ub, vb) leave direction d to a fault at (u, v).
+fn does_fit(ua: usize, va: usize, ub: usize, vb: usize, u: usize, v: usize, d: u8) -> bool {
+    match d {
+        1 => (ub <= u) & ((ua < u) | is_side(va, vb, va, v)),
+        2 => (u <= ua) & ((u < ub) | is_side(va, vb, v, vb)),
+        3 => ((ua < u) | (va < v)) & ((u < ub) | (vb < v)),
+        4 => ((ua < u) | (v < va)) & ((u < ub) | (v < vb)),
+        _ => false,
+    }
+}
+
+/// South and east, north and west exchanged.
+fn exchange(d: u8) -> u8 {
+    match d {
+        1 => 3,
+        2 => 4,
+        3 => 1,
+        4 => 2,
+        _ => 0,
+    }
+}
+
+/// Whether the pair (a, b) leaves direction d to the fault at p.
+fn does_leave(columns: bool, a: usize, b: usize, p: usize, d: u8) -> bool {
+    if columns {
+        return does_fit(a % 32, a / 32, b % 32, b / 32, p % 32, p / 32, exchange(d));
+    }
+    does_fit(a / 32, a % 32, b / 32, b % 32, p / 32, p % 32, d)
+}
+
+fn is_tried(columns: bool, a: usize, b: usize) -> bool {
+    if columns {
+        return a % 32 < b % 32;
+    }
+    (a / 32 < b / 32) | (a % 32 != b % 32)
+}
+
+fn find_lowest(south: bool, north: bool, east: bool, west: bool) -> u8 {
+    if south {
+        return 1;
+    }
+    if north {
+        return 2;
+    }
+    if east {
+        return 3;
+    }
+    if west { 4 } else { 0 }
+}
+
+fn find_highest(south: bool, north: bool, east: bool, west: bool) -> u8 {
+    if west {
+        return 4;
+    }
+    if east {
+        return 3;
+    }
+    if north {
+        return 2;
+    }
+    if south { 1 } else { 0 }
+}
+
+fn pick(passes: bool, x: u8, y: u8) -> u8 {
+    if passes { x } else { y }
+}
+
+fn does_pass(clashes: &[u8; 400], starts: &[u16], f: usize, d: u8, g: usize, e: u8) -> bool {
+    let (p, q) = (starts[f], starts[g]);
+    find_entry(clashes, (p / 32) as u8, (p % 32) as u8, d, (q / 32) as u8, (q % 32) as u8, e) == 0
+}
+
+/// Takes from fault g the options that do not pass with direction d of fault f; false where it is left none.
+fn strike_one(clashes: &[u8; 400], starts: &[u16], lo: &mut [u8], hi: &mut [u8], f: usize, d: u8, g: usize) -> bool {
+    let (low, high) = (lo[g], hi[g]);
+    let a = does_pass(clashes, starts, f, d, g, low);
+    if low == high {
+        return a;
+    }
+    let b = does_pass(clashes, starts, f, d, g, high);
+    if !(a | b) {
+        return false;
+    }
+    lo[g] = pick(a, low, high);
+    hi[g] = pick(b, high, low);
+    true
+}
+
+/// The same for the faults in places begin to end of the lists.
+#[allow(clippy::too_many_arguments)]
+fn strike_listed(
+    clashes: &[u8; 400],
+    starts: &[u16],
+    lists: &[u8],
+    begin: usize,
+    end: usize,
+    lo: &mut [u8],
+    hi: &mut [u8],
+    f: usize,
+) -> bool {
+    let d = lo[f];
+    lists[begin..end].iter().all(|&g| strike_one(clashes, starts, lo, hi, f, d, g as usize))
+}
+
+/// The same for every fault from this one on, except f.
+fn strike_rest(clashes: &[u8; 400], starts: &[u16], from: usize, lo: &mut [u8], hi: &mut [u8], f: usize) -> bool {
+    let d = lo[f];
+    (from..starts.len()).all(|g| g == f || strike_one(clashes, starts, lo, hi, f, d, g))
+}
+
+/// The same for every other fault: those that row f names, and those from its rest on.
+#[allow(clippy::too_many_arguments)]
+fn strike(clashes: &[u8; 400], starts: &[u16], lists: &[u8], ends: &[u16], rest: &[u8], lo: &mut [u8], hi: &mut [u8], f: usize) -> bool {
+    let (begin, end) = (ends[f] as usize, ends[f + 1] as usize);
+    if !strike_listed(clashes, starts, lists, begin, end, lo, hi, f) {
+        return false;
+    }
+    strike_rest(clashes, starts, rest[f] as usize, lo, hi, f)
+}
+
+/// The first fault from `from` on that has one option and is not marked, or the number of all.
+fn find_from(from: usize, count: usize, lo: &[u8], hi: &[u8], done: &[u8]) -> usize {
+    (from..count).find(|&k| (lo[k] == hi[k]) & (done[k] == 0)).unwrap_or(count)
+}
+
+/// The first such fault from `from` on, else the first of all.
+fn find_next(from: usize, count: usize, lo: &[u8], hi: &[u8], done: &[u8]) -> usize {
+    let f = find_from(from, count, lo, hi, done);
+    if f < count {
+        return f;
+    }
+    find_from(0, count, lo, hi, done)
+}
+
+/// Closes every fault that has one option, and those that then have one; false where a fault is left none.
+#[allow(clippy::too_many_arguments)]
+fn spread(
+    clashes: &[u8; 400],
+    starts: &[u16],
+    lists: &[u8],
+    ends: &[u16],
+    rest: &[u8],
+    lo: &mut [u8],
+    hi: &mut [u8],
+    done: &mut [u8],
+) -> bool {
+    let count = starts.len();
+    let mut f = find_next(0, count, lo, hi, done);
+    while f < count {
+        if !strike(clashes, starts, lists, ends, rest, lo, hi, f) {
+            return false;
+        }
+        done[f] = 1;
+        f = find_next(f + 1, count, lo, hi, done);
+    }
+    true
+}
+
+/// Gives fault k the lesser of its two options, where the propagation allows it; else changes nothing.
+#[allow(clippy::too_many_arguments)]
+fn settle_low(
+    clashes: &[u8; 400],
+    starts: &[u16],
+    lists: &[u8],
+    ends: &[u16],
+    rest: &[u8],
+    lo: &mut [u8],
+    hi: &mut [u8],
+    done: &mut [u8],
+    k: usize,
+) -> bool {
+    let (mut low, mut high, mut marks) = ([0; ROOM], [0; ROOM], [0; ROOM]);
+    low.copy_from_slice(lo);
+    high.copy_from_slice(hi);
+    marks.copy_from_slice(done);
+    high[k] = lo[k];
+    if !spread(clashes, starts, lists, ends, rest, &mut low, &mut high, &mut marks) {
+        return false;
+    }
+    lo.copy_from_slice(&low);
+    hi.copy_from_slice(&high);
+    done.copy_from_slice(&marks);
+    true
+}
+
+/// The lesser of its options where the propagation allows it, else the greater; false where it allows neither.
+#[allow(clippy::too_many_arguments)]
+fn settle(
+    clashes: &[u8; 400],
+    starts: &[u16],
+    lists: &[u8],
+    ends: &[u16],
+    rest: &[u8],
+    lo: &mut [u8],
+    hi: &mut [u8],
+    done: &mut [u8],
+    k: usize,
+) -> bool {
+    if lo[k] == hi[k] {
+        return true;
+    }
+    if settle_low(clashes, starts, lists, ends, rest, lo, hi, done, k) {
+        return true;
+    }
+    lo[k] = hi[k];
+    spread(clashes, starts, lists, ends, rest, lo, hi, done)
+}
+
+#[allow(clippy::too_many_arguments)]
+fn solve(
+    clashes: &[u8; 400],
+    starts: &[u16],
+    lists: &[u8],
+    ends: &[u16],
+    rest: &[u8],
+    lo: &mut [u8],
+    hi: &mut [u8],
+    done: &mut [u8],
+) -> bool {
+    (0..starts.len()).all(|k| settle(clashes, starts, lists, ends, rest, lo, hi, done, k))
+}
+
+/// Whether the first buffer's directions come before the second's.
+fn is_before(count: usize, a: &[u8], b: &[u8]) -> bool {
+    for k in 0..count {
+        if a[k] < b[k] {
+            return true;
+        }
+        if b[k] < a[k] {
+            return false;
+        }
+    }
+    false
+}
+
+/// The best so far, or the first solution of these options where that comes before it.
+#[allow(clippy::too_many_arguments)]
+fn try_options(
+    clashes: &[u8; 400],
+    starts: &[u16],
+    lists: &[u8],
+    ends: &[u16],
+    rest: &[u8],
+    lo: &mut [u8],
+    hi: &mut [u8],
+    have: bool,
+    best: &mut [u8],
+) -> bool {
+    let count = starts.len();
+    let mut done = [0; ROOM];
+    if !spread(clashes, starts, lists, ends, rest, lo, hi, &mut done) {
+        return have;
+    }
+    if have & !is_before(count, lo, best) {
+        return true;
+    }
+    if !solve(clashes, starts, lists, ends, rest, lo, hi, &mut done) {
+        return have;
+    }
+    if have & !is_before(count, lo, best) {
+        return true;
+    }
+    best.copy_from_slice(lo);
+    true
+}
+
+/// Whether direction d is allowed to fault k, at p, alone and by the pair (a, b).
+fn is_offered(columns: bool, a: usize, b: usize, table: &[u8], p: usize, k: usize, d: u8) -> bool {
+    if table[4 * k + d as usize - 1] != 1 {
+        return false;
+    }
+    does_leave(columns, a, b, p, d)
+}
+
+/// The options that the pair (a, b) leaves; false where a fault is left none.
+fn set_options(columns: bool, a: usize, b: usize, starts: &[u16], table: &[u8], lo: &mut [u8], hi: &mut [u8]) -> bool {
+    for (k, &p) in starts.iter().enumerate() {
+        let south = is_offered(columns, a, b, table, p as usize, k, 1);
+        let north = is_offered(columns, a, b, table, p as usize, k, 2);
+        let east = is_offered(columns, a, b, table, p as usize, k, 3);
+        let west = is_offered(columns, a, b, table, p as usize, k, 4);
+        let low = find_lowest(south, north, east, west);
+        if low == 0 {
+            return false;
+        }
+        lo[k] = low;
+        hi[k] = find_highest(south, north, east, west);
+    }
+    true
+}
+
+/// The best plan so far, and those that the pair (a, b) leaves. True where there is one.
+#[allow(clippy::too_many_arguments)]
+fn try_pair(
+    clashes: &[u8; 400],
+    starts: &[u16],
+    table: &[u8],
+    lists: &[u8],
+    ends: &[u16],
+    rest: &[u8],
+    columns: bool,
+    a: usize,
+    b: usize,
+    have: bool,
+    best: &mut [u8],
+) -> bool {
+    let (mut lo, mut hi) = ([0; ROOM], [0; ROOM]);
+    if !set_options(columns, a, b, starts, table, &mut lo, &mut hi) {
+        return have;
+    }
+    try_options(clashes, starts, lists, ends, rest, &mut lo, &mut hi, have, best)
+}
+
+/// The position of an end.
+fn find_end(starts: &[u16], none: usize, k: usize) -> usize {
+    if k < starts.len() {
+        return starts[k] as usize;
+    }
+    none
+}
+
+/// Whether an end may go in direction d, alone.
+fn may_end(table: &[u8], count: usize, k: usize, d: u8) -> bool {
+    if k < count {
+        return table[4 * k + d as usize - 1] == 1;
+    }
+    true
+}
+
+/// The best plan so far, and those that the pair of faults a and b leaves.
+#[allow(clippy::too_many_arguments)]
+fn try_ends(
+    clashes: &[u8; 400],
+    starts: &[u16],
+    table: &[u8],
+    lists: &[u8],
+    ends: &[u16],
+    rest: &[u8],
+    columns: bool,
+    a: usize,
+    b: usize,
+    have: bool,
+    best: &mut [u8],
+) -> bool {
+    if !may_end(table, starts.len(), b, pick(columns, 3, 1)) {
+        return have;
+    }
+    let (p, q) = (find_end(starts, 0, a), find_end(starts, 1023, b));
+    if !is_tried(columns, p, q) {
+        return have;
+    }
+    try_pair(clashes, starts, table, lists, ends, rest, columns, p, q, have, best)
+}
+
+/// The best plan so far, and those that any pair with fault a leaves.
+#[allow(clippy::too_many_arguments)]
+fn try_row(
+    clashes: &[u8; 400],
+    starts: &[u16],
+    table: &[u8],
+    lists: &[u8],
+    ends: &[u16],
+    rest: &[u8],
+    columns: bool,
+    a: usize,
+    had: bool,
+    best: &mut [u8],
+) -> bool {
+    let count = starts.len();
+    if !may_end(table, count, a, pick(columns, 4, 2)) {
+        return had;
+    }
+    let mut have = had;
+    for b in 0..count + 1 {
+        have = try_ends(clashes, starts, table, lists, ends, rest, columns, a, b, have, best);
+    }
+    have
+}
+
+/// The best plan so far, and those that any pair leaves, by rows or by columns.
+#[allow(clippy::too_many_arguments)]
+fn try_pairs(
+    clashes: &[u8; 400],
+    starts: &[u16],
+    table: &[u8],
+    lists: &[u8],
+    ends: &[u16],
+    rest: &[u8],
+    columns: bool,
+    had: bool,
+    best: &mut [u8],
+) -> bool {
+    let mut have = had;
+    for a in 0..starts.len() + 1 {
+        have = try_row(clashes, starts, table, lists, ends, rest, columns, a, have, best);
+    }
+    have
+}
+
+/// The directions allowed alone, four for each fault.
+fn list_open(n: usize, m: usize, grid: &[u8], starts: &[u16], table: &mut [u8]) {
+    for i in 0..4 * starts.len() {
+        let open = is_open(n, m, grid, starts[i / 4] as usize, (i % 4) as u8 + 1);
+        table[i] = pick(open, 1, 0);
+    }
+}
+
+/// Whether every fault has a direction that is allowed alone.
+fn have_paths(count: usize, table: &[u8]) -> bool {
+    (0..count).all(|k| {
+        let i = 4 * k;
+        let vertical = (table[i] == 1) | (table[i + 1] == 1);
+        let horizontal = (table[i + 2] == 1) | (table[i + 3] == 1);
+        vertical | horizontal
+    })
+}
+
+/// Whether direction d of fault f and direction e of fault g are both allowed alone, and their paths clash.
+fn does_clash(clashes: &[u8; 400], starts: &[u16], table: &[u8], f: usize, d: u8, g: usize, e: u8) -> bool {
+    if table[4 * f + d as usize - 1] != 1 {
+        return false;
+    }
+    if table[4 * g + e as usize - 1] != 1 {
+        return false;
+    }
+    !does_pass(clashes, starts, f, d, g, e)
+}
+
+/// Whether two faults may clash: in some of their directions that are allowed alone.
+fn may_clash(clashes: &[u8; 400], starts: &[u16], table: &[u8], f: usize, g: usize) -> bool {
+    if f == g {
+        return false;
+    }
+    (0..16).any(|i| does_clash(clashes, starts, table, f, i / 4 + 1, g, i % 4 + 1))
+}
+
+/// Row f of the lists: the faults that may clash with f. Where the lists are full it ends, and the rest is not listed.
+fn list_row(clashes: &[u8; 400], starts: &[u16], table: &[u8], lists: &mut [u8], ends: &mut [u16], rest: &mut [u8], f: usize) {
+    let mut end = ends[f] as usize;
+    let mut g = 0;
+    while (g < starts.len()) & (end < LISTED) {
+        if may_clash(clashes, starts, table, f, g) {
+            lists[end] = g as u8;
+            end += 1;
+        }
+        g += 1;
+    }
+    ends[f + 1] = end as u16;
+    rest[f] = g as u8;
+}
+
+fn list_rows(clashes: &[u8; 400], starts: &[u16], table: &[u8], lists: &mut [u8], ends: &mut [u16], rest: &mut [u8]) {
+    for f in 0..starts.len() {
+        list_row(clashes, starts, table, lists, ends, rest, f);
+    }
+}
+
+/// The first of all plans, where there is one.
+fn find_best(n: usize, m: usize, grid: &[u8], starts: &[u16], best: &mut [u8]) -> bool {
+    let mut table = [0; 4 * ROOM];
+    list_open(n, m, grid, starts, &mut table);
+    if !have_paths(starts.len(), &table) {
+        return false;
+    }
+    let clashes = CLASHES;
+    let (mut lists, mut ends, mut rest) = ([0; LISTED], [0; ROOM + 1], [0; ROOM]);
+    list_rows(&clashes, starts, &table, &mut lists, &mut ends, &mut rest);
+    let rows = try_pairs(&clashes, starts, &table, &lists, &ends, &rest, false, false, best);
+    try_pairs(&clashes, starts, &table, &lists, &ends, &rest, true, rows, best)
+}
+
+fn write_best(found: bool, starts: &[u16], best: &[u8], directions: &mut [u8]) {
+    directions.fill(0);
+    if found {
+        for (&p, &d) in starts.iter().zip(best) {
+            directions[p as usize] = d;
+        }
+    }
+}
+
+fn find_among(n: usize, m: usize, grid: &[u8], starts: &[u16], directions: &mut [u8]) -> bool {
+    if 2 * (n + m) < starts.len() {
+        directions.fill(0);
+        return false;
+    }
+    let mut best = [0; ROOM];
+    let found = find_best(n, m, grid, starts, &mut best);
+    write_best(found, starts, &best[..starts.len()], directions);
+    found
+}
+
+fn find_exactly(n: usize, m: usize, grid: &[u8], directions: &mut [u8]) -> Decision {
+    let mut starts = [0u16; LONG];
+    let count = list_faults(n, m, grid, &mut starts);
+    if find_among(n, m, grid, &starts[..count], directions) {
+        return Decision::Repaired;
+    }
+    Decision::Beyond
+}
+
+pub fn plan_exactly(n: usize, m: usize, grid: &[u8], directions: &mut [u8]) -> Result<Decision, Refusal> {
+    check_map(n, m, grid.len() == LONG && directions.len() == LONG, grid)?;
+    Ok(find_exactly(n, m, grid, directions))
+}
+
 // Placement and routing.
 
 fn trace_paths(n: usize, m: usize, grid: &[u8], directions: &[u8]) -> [u8; LONG] {

@@ -144,7 +144,25 @@ fn with_faults_at(is_fault: fn(usize, usize) -> bool) -> Vec<u8> {
     grid
 }
 
-/// Both planners on the same map, each with what it finds.
+/// The exact planner on a map, with what it decides. The two buffers differ at first, so that they are alike only where both are written. A round
+/// has as many calls as take about a millisecond, 1 to 50.
+fn compare_exactly(name: &str, n: usize, m: usize, grid: &[u8]) {
+    let (mut a, mut b) = (vec![5; LONG], vec![6; LONG]);
+    let decided = chantspruce::plan_exactly(n, m, grid, &mut a).expect("a map of the right form");
+    let found = same::plan_exactly(n, m, grid, &mut b).expect("a map of the right form");
+    assert_eq!(format!("{decided:?}"), format!("{found:?}"), "two decisions for the same map");
+    let mut library = || {
+        black_box(chantspruce::plan_exactly(n, m, black_box(grid), &mut a)).ok();
+    };
+    let mut rust = || {
+        black_box(same::plan_exactly(n, m, black_box(grid), &mut b)).ok();
+    };
+    let calls = (1000.0 / microseconds(1, &mut library)).clamp(1.0, 50.0) as usize;
+    compare(&format!("plan_exactly, {name}: {found:?}"), calls, &mut library, &mut rust);
+    assert!(a == b, "two exact plans for the same map");
+}
+
+/// All planners on the same map, each with what it finds.
 fn compare_planners(name: &str, grid: &[u8]) {
     let limit = 1_000_000;
     let (mut a, mut b) = (vec![0; LONG], vec![0; LONG]);
@@ -172,17 +190,33 @@ fn compare_planners(name: &str, grid: &[u8]) {
         },
     );
     assert!(a == b, "two quick plans for the same map");
+    compare_exactly(name, 30, 30, grid);
 }
 
-fn compare_quickly() {
+/// Rows, columns and grid of a map file.
+fn read_file(path: &str) -> (usize, usize, Vec<u8>) {
+    let mut grid = vec![0; LONG];
+    let (n, m, _) = same::read_map(&std::fs::read(path).expect("a map file"), &mut grid).expect("a map");
+    (n, m, grid)
+}
+
+fn compare_all_planners() {
     let random = find_map(40, 1_000_000, |o| matches!(o, Outcome::Repaired(_)));
     compare_planners("40 faults", &random);
     let rim = |x, y| x == 1 || x == 30 || y == 1 || y == 30;
     compare_planners("116 faults at the rim", &with_faults_at(rim));
     compare_planners("900 faults", &with_faults_at(|_, _| true));
-    let mut spent = vec![0; LONG];
-    same::read_map(&std::fs::read("examples/spent.map").expect("an example"), &mut spent).expect("a map");
+    let (_, _, spent) = read_file("examples/spent.map");
     compare_planners("examples/spent.map", &spent);
+}
+
+/// The exact planner on maps that spend another planner and on hard ones: hard-repaired.map and hard-beyond.map were found by a hill climb over
+/// 30 x 30 maps for the longest time, as estimated from counts of the planner's steps.
+fn compare_exactly_on_files() {
+    for path in ["examples/both-spent.map", "examples/quick-spent.map", "tests/speed/hard-repaired.map", "tests/speed/hard-beyond.map"] {
+        let (n, m, grid) = read_file(path);
+        compare_exactly(path.trim_start_matches("tests/speed/"), n, m, &grid);
+    }
 }
 
 fn compare_reading() {
@@ -319,7 +353,8 @@ fn main() {
     for faults in [20, 34, 40, 60] {
         compare_trials(faults);
     }
-    compare_quickly();
+    compare_all_planners();
+    compare_exactly_on_files();
     compare_reading();
     compare_plan(20);
     compare_plan(50);

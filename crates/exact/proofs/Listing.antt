@@ -120,11 +120,11 @@ both-below a b x y h =
 -- One row, from its begin: the faults below g are passed.
 module _ (count : ℕ) (clears : ℕ → ℕ → ℕ → ℕ → Bool) (may : ℕ → ℕ → Type 0) where
   pub record Rowing (f begin : ℕ) (lists : List ℕ) (end g : ℕ) (lists′ : List ℕ) : Type 0 where
-    pub long : length lists′ ≡ 4096
+    pub long : length lists′ ≡ 2048
     pub same : (i : ℕ) → i < begin → at lists′ i ≡ at lists i
     pub row : Row count clears may lists′ f begin end g
 
-  pub row-start : {f begin : ℕ} {lists : List ℕ} → length lists ≡ 4096 → begin ≤ 4096
+  pub row-start : {f begin : ℕ} {lists : List ℕ} → length lists ≡ 2048 → begin ≤ 2048
       → Rowing f begin lists begin 0 lists
   row-start h b = record {
     long = h;
@@ -152,7 +152,7 @@ module _ (count : ℕ) (clears : ℕ → ℕ → ℕ → ℕ → Bool) (may : �
       };
     }
 
-    pub row-name : g < count → end < 4096 → (f ≡ g → ⊥) → Rowing f begin lists (end + 1) (g + 1) (set lists′ end g)
+    pub row-name : g < count → end < 2048 → (f ≡ g → ⊥) → Rowing f begin lists (end + 1) (g + 1) (set lists′ end g)
     row-name l m ne =
         let long = s .long in
         let ordered = s .row .ordered in
@@ -204,14 +204,14 @@ module _ (count : ℕ) (clears : ℕ → ℕ → ℕ → ℕ → Bool) (may : �
 -- The rows one after the other.
 module _ (count : ℕ) (clears : ℕ → ℕ → ℕ → ℕ → Bool) (may : ℕ → ℕ → Type 0) where
   pub record Listing (f : ℕ) (lists ends rest : List ℕ) : Type 0 where
-    pub long : length lists ≡ 4096
+    pub long : length lists ≡ 2048
     pub ends-long : length ends ≡ 129
     pub rest-long : length rest ≡ 128
-    pub last : at ends f ≤ 4096
+    pub last : at ends f ≤ 2048
     pub ascend : (j : ℕ) → j < f → at ends (j + 1) ≤ at ends f
     pub rows : (j : ℕ) → j < f → Row count clears may lists j (at ends j) (at ends (j + 1)) (at rest j)
 
-  pub rows-start : {lists ends rest : List ℕ} → length lists ≡ 4096 → length ends ≡ 129 → length rest ≡ 128
+  pub rows-start : {lists ends rest : List ℕ} → length lists ≡ 2048 → length ends ≡ 129 → length rest ≡ 128
       → at ends 0 ≡ 0 → Listing 0 lists ends rest
   rows-start a b c e = record {
     long = a;

@@ -58,7 +58,7 @@ pub record Named (lists : List ℕ) (begin end h : ℕ) : Type 0 where
 
 -- in these places stand other faults than f
 pub record Others (count : ℕ) (lists : List ℕ) (f begin end : ℕ) : Type 0 where
-  pub fits : end ≤ 4096
+  pub fits : end ≤ 2048
   pub inside : (i : ℕ) → begin ≤ i → i < end → at lists i < count
   pub other : (i : ℕ) → begin ≤ i → i < end → f ≡ at lists i → ⊥
 
@@ -72,14 +72,14 @@ module _ (count : ℕ) (clears : ℕ → ℕ → ℕ → ℕ → Bool) (may : �
     pub covers : (h : ℕ) → h < rest → (f ≡ h → ⊥) → Passes clears may f h ⊎ Named lists begin end h
 
   pub record Listed (lists ends rest : List ℕ) : Type 0 where
-    pub long : length lists ≡ 4096
+    pub long : length lists ≡ 2048
     pub ends-long : length ends ≡ 129
     pub rest-long : length rest ≡ 128
     pub rows : (f : ℕ) → f < count → Row lists f (at ends f) (at ends (f + 1)) (at rest f)
 
   -- row f is right, and the rows before it are as they were
   pub record Row-listed (f : ℕ) (lists ends rest lists′ ends′ rest′ : List ℕ) : Type 0 where
-    pub long : length lists′ ≡ 4096
+    pub long : length lists′ ≡ 2048
     pub ends-long : length ends′ ≡ 129
     pub rest-long : length rest′ ≡ 128
     pub same : (i : ℕ) → i < at ends f → at lists′ i ≡ at lists i
@@ -195,7 +195,7 @@ module _ (starts : List ℕ) where
       × Judged r (First-solution (length starts) (clears-on starts) (at lo) (at hi) (at lo′))
       (No-solution (length starts) (clears-on starts) (at lo) (at hi))
 
--- the first of these faults from a number on that has one option and is not marked, or how many there are
+-- one of these faults that has one option and is not marked; or how many there are, where none from a number on is such
 pub record Next (from count : ℕ) (lo hi done : ℕ → ℕ) (f : ℕ) : Type 0 where
   pub within : f ≤ count
   pub one : f < count → lo f ≡ hi f

@@ -1,5 +1,6 @@
--- What is proved of the exact planner's rule: the statements (docs/EXACT.md). All but the last two are over any tests of a
--- path and of two paths, and over what is used of the geometry.
+-- What is proved of the exact planner's rule: the statements (docs/EXACT.md). `Two-options` and `Nothing-lost` are about
+-- rows and columns alone, `Narrowing-keeps` is over any symmetric test of two paths; `Paths-apart` and `Spare-each` are
+-- about the paths of document 01.
 -- Assumes nothing.
 use Prim.Native.Nat.{ℕ, _+_, _*_, _≤_, _<_}
 use mathlib.Core.Path.{_≡_}

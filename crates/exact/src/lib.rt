@@ -114,7 +114,7 @@ fn find_highest(south: bool, north: bool, east: bool, west: bool) -> u8
     if south { 1 } else { 0 }
 }
 
-// X, or y where x does not pass.
+// x where `passes`, else y.
 fn pick(passes: bool, x: u8, y: u8) -> u8
     ensures { λ r. ⌜ r ≡ cond passes x y ⌝ }
 {
@@ -183,7 +183,7 @@ fn strike_listed(
     f: usize,
 ) -> bool
     requires { ⌜ Sited (now clashes) (now starts) × Held (length (now starts)) (now lo) (now hi)
-        × (f < length (now starts)) × (at (now lo) f ≡ at (now hi) f) × (length (now lists) ≡ 4096)
+        × (f < length (now starts)) × (at (now lo) f ≡ at (now hi) f) × (length (now lists) ≡ 2048)
         × Others (length (now starts)) (now lists) f begin end ⌝ }
     ensures { λ r. ⌜ Strikes-those (now (starts .entry)) (Named (now (lists .entry)) begin end) (now (lo .entry))
         (now (hi .entry)) f r (now (lo .exit)) (now (hi .exit)) ⌝ }
@@ -751,15 +751,15 @@ fn list_row(
     f: usize,
 )
     requires { ⌜ Sited (now clashes) (now starts) × (length (now table) ≡ 512) × (f < length (now starts))
-        × (length (now lists) ≡ 4096) × (length (now ends) ≡ 129) × (length (now rest) ≡ 128)
-        × (at (now ends) f ≤ 4096) ⌝ }
+        × (length (now lists) ≡ 2048) × (length (now ends) ≡ 129) × (length (now rest) ≡ 128)
+        × (at (now ends) f ≤ 2048) ⌝ }
     ensures { λ _. ⌜ Row-listed (length (now (starts .entry))) (clears-on (now (starts .entry))) (Alone (now (table .entry))) f
         (now (lists .entry)) (now (ends .entry)) (now (rest .entry))
         (now (lists .exit)) (now (ends .exit)) (now (rest .exit)) ⌝ }
 {
     let mut end = ends[f] as usize;
     let mut g = 0;
-    while (g < starts.len()) & (end < 4096) {
+    while (g < starts.len()) & (end < 2048) {
         if may_clash(clashes, starts, table, f, g) {
             lists[end] = g as u8;
             end += 1;
@@ -779,7 +779,7 @@ fn list_rows(
     ends: &mut [u16],
     rest: &mut [u8],
 )
-    requires { ⌜ Sited (now clashes) (now starts) × (length (now table) ≡ 512) × (length (now lists) ≡ 4096)
+    requires { ⌜ Sited (now clashes) (now starts) × (length (now table) ≡ 512) × (length (now lists) ≡ 2048)
         × (length (now ends) ≡ 129) × (length (now rest) ≡ 128) × (at (now ends) 0 ≡ 0) ⌝ }
     ensures { λ _. ⌜ Listed (length (now (starts .entry))) (clears-on (now (starts .entry))) (Alone (now (table .entry)))
         (now (lists .exit)) (now (ends .exit)) (now (rest .exit)) ⌝ }
@@ -801,7 +801,7 @@ fn find_best(n: usize, m: usize, grid: &[u8], starts: &[u16], best: &mut [u8]) -
         return false;
     }
     let clashes = paths::clash_table();
-    let mut lists = [0u8; 4096];
+    let mut lists = [0u8; 2048];
     let mut ends = [0u16; 129];
     let mut rest = [0u8; 128];
     list_rows(&clashes, starts, &table, &mut lists, &mut ends, &mut rest);

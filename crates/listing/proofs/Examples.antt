@@ -10,6 +10,7 @@ use Rattle.plans.specs.Check.{pairs-test, paths-test, plan-tests}
 use Rattle.trials.specs.Trials.{offer, trials, clear-of, keeps}
 use Rattle.trials.specs.Search.{searched, planned, outcome, direction-of, directions-written}
 use Rattle.peeling.specs.Peel.{pick-along, peel, left-on, peeled-on, quick-planned}
+use Rattle.exact.specs.Exact.{decided, directions-found}
 use Rattle.track.specs.Placement.{through, placement}
 use Rattle.track.specs.Letters.{letters, entry, letter, across-letters, down-letters}
 use Rattle.repair.specs.Operations.{plan-by, directions-by}
@@ -17,12 +18,13 @@ use Rattle.repair.specs.Operations.{place-cells, places-after, route-switches, 
 use Rattle.formats.specs.Number.{number-at, size-at}
 use Rattle.formats.specs.Records.{healthy-grid}
 use Rattle.readers.specs.Reading.{record-at, records-at, read-file}
-use Rattle.listing.specs.Listing.{along, digits, line, path-line, cell-line, switch-line, plan-lines, repair-lines, outcome-lines, refusal-line, head-line, map-lines, file-lines, listing}
+use Rattle.listing.specs.Listing.{along, digits, line, path-line, cell-line, switch-line, plan-lines, repair-lines, outcome-lines, decision-lines, refusal-line, head-line, map-lines, file-lines, listing}
 use Rattle.listing.specs.Examples.{Examples}
 
 pub examples : Examples
 unfolding
-    along digits line path-line cell-line switch-line plan-lines repair-lines outcome-lines refusal-line
+    along digits line path-line cell-line switch-line plan-lines repair-lines outcome-lines
+    decision-lines decided directions-found refusal-line
     head-line map-lines file-lines listing
     plan-by directions-by place-cells places-after route-switches across-after down-after
     first-of first-along span positions-along faulty-mark map-tests
@@ -40,6 +42,8 @@ examples =
       greatest-is = refl;
       repaired = refl;
       settled = refl;
+      exactly-repaired = refl;
+      exactly-beyond = refl;
       beyond = refl;
       dead-repaired = refl;
       dead-beyond = refl;

@@ -3,7 +3,7 @@
 use mathlib.Core.Path.{_≡_}
 use mathlib.Core.List.{[], _∷_}
 use Rattle.formats.specs.Ascii.{ascii, ascii-lines}
-use Rattle.repair.specs.declared.Planner.the-variants.{Trials, Quick}
+use Rattle.repair.specs.declared.Planner.the-variants.{Trials, Quick, Exact}
 use Rattle.listing.specs.Listing.{digits, listing}
 
 pub record Examples : Type 0 where
@@ -22,7 +22,14 @@ pub record Examples : Type 0 where
       ≡ ascii-lines ("map 2 2 1" ∷ "repaired 0" ∷ "path 1 1 W"
       ∷ "cell 1 1 1 0" ∷ "cell 1 2 1 2" ∷ "cell 2 1 2 1" ∷ "cell 2 2 2 2"
       ∷ "across bbbbbbbb" ∷ "down dbccbbbb" ∷ [])
-  -- size 1 × 1, all five processors faulty
+  -- and with the exact planner, without a count; and size 1 × 1, all five processors faulty
+  pub exactly-repaired : listing Exact (2 ∷ 2 ∷ 1 ∷ 1 ∷ 1 ∷ [])
+      ≡ ascii-lines ("map 2 2 1" ∷ "repaired" ∷ "path 1 1 S"
+      ∷ "cell 1 1 2 1" ∷ "cell 1 2 1 2" ∷ "cell 2 1 3 1" ∷ "cell 2 2 2 2"
+      ∷ "across bcdbcdbd" ∷ "down bbbbbbbb" ∷ [])
+  pub exactly-beyond : listing Exact (1 ∷ 1 ∷ 5 ∷ 0 ∷ 1 ∷ 1 ∷ 0 ∷ 1 ∷ 1 ∷ 1 ∷ 2 ∷ 2 ∷ 1 ∷ [])
+      ≡ ascii-lines ("map 1 1 5" ∷ "beyond" ∷ [])
+  -- the same by the trial rule
   pub beyond : listing Trials (1 ∷ 1 ∷ 5 ∷ 0 ∷ 1 ∷ 1 ∷ 0 ∷ 1 ∷ 1 ∷ 1 ∷ 2 ∷ 2 ∷ 1 ∷ [])
       ≡ ascii-lines ("map 1 1 5" ∷ "beyond 4" ∷ [])
   -- size 2 × 2 with (2, 2) dead, which takes north; size 3 × 3 with (2, 2) dead; a spare listed as dead

@@ -196,7 +196,7 @@ trial-lines pl head grid =
     (buffer-by pl limit (kept-by pl n m grid) (left-by pl n m grid) (planned-by pl n m grid))
     (answer-by pl limit (planned-by pl n m grid))
 
--- the statement that a map that was read is planned, never refused: its lines are the first one and those of the trials' outcome
+-- the statement that a map that was read is planned, never refused: its lines are the first one and those of the planner's answer
 abbrev pub Maps-listed : Type 0
 Maps-listed =
     (pl : Planner) (s grid : List ℕ) (head : Head) → read-map s zeros ≡ (reader.File head, grid)

@@ -53,7 +53,7 @@ use Rattle.repair.specs.Demand3.{Same-map, Not-spent, Planners-agree}
 use Rattle.repair.specs.declared.Planner.{Planner}
 use Rattle.repair.specs.declared.Planner.the-variants.{Trials, Quick, Exact}
 use Rattle.repair.specs.declared.Answer.the-variants.{Planned, Decided}
-use Rattle.repair.proofs.Planners.{held-by, Planner-rule, planner-rule, over-all, counted-answer, Repaired-as, repaired-as}
+use Rattle.repair.proofs.Planners.{held-by, Planner-rule, planner-rule, over-all, counted-answer, uncounted-exact, Repaired-as, repaired-as}
 use Rattle.trials.proofs.Outcomes.{above-spent, spent-above, carried, beyond-exhausted, found-repaired, exhausted-beyond}
 use Rattle.track.specs.Theorems as track
 
@@ -358,7 +358,7 @@ module _ (g : Given) (good : Good g) where
       after-found (repaired-as (g .planner) (g .limit) (g .n) (g .m) (g .grid) (ap is-repaired (sym answer-as) ∙ e))
 
   whole-run : Demand3 g
-  whole-run = record { under-limit = limited; without-limit = unlimited; after = after-repaired }
+  whole-run = record { under-limit = limited; without-limit = λ c. unlimited (uncounted-exact (g .planner) c); after = after-repaired }
 
 pub demand-3 : Demand-3
 demand-3 g good = whole-run g good

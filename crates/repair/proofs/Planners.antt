@@ -3,7 +3,7 @@
 -- Assumes nothing.
 use Prim.Native.Nat.{ℕ}
 use mathlib.Core.Path.{_≡_, refl, sym, ap, subst, _∙_}
-use mathlib.Core.Bool.{Bool, true, cond, false≢true}
+use mathlib.Core.Bool.{Bool, true, false, cond, false≢true}
 use mathlib.Core.Logic.{_⊎_, inl, inr}
 use mathlib.Core.List.{List, []}
 use borrow.Author.Tests.{le-leb}
@@ -113,6 +113,12 @@ pub counted-answer : (pl : Planner) (limit : ℕ) (s : Search) → counts pl ≡
 counted-answer Trials limit s h = refl
 counted-answer Quick limit s h = refl
 counted-answer Exact limit s h = absurd (false≢true h)
+
+-- the one that does not count
+pub uncounted-exact : (pl : Planner) → counts pl ≡ false → pl ≡ Exact
+uncounted-exact Trials h = absurd (false≢true (sym h))
+uncounted-exact Quick h = absurd (false≢true (sym h))
+uncounted-exact Exact h = refl
 
 -- an answer that says repaired: the trials find directions, and the buffer holds them
 pub record Repaired-as (pl : Planner) (limit : ℕ) (kept : List Fault) (left : List ℕ) (s : Search) : Type 0 where

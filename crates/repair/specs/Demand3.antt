@@ -1,11 +1,11 @@
 -- Demand 3, as one statement about a whole run (document 00, demand 3; document 01, end of "Placement and routing").
 -- Document 02, T-04: the openness of a plan is the narrower one, and a dead processor joins none of its ports. T-05: the
--- run is made with any of the planners, and all call a map beyond repair in the same cases. The exact planner has no limit
--- and is never spent.
+-- run is made with any of the planners, and those that are not spent call a map beyond repair in the same cases. The exact
+-- planner has no limit and is never spent.
 -- Assumes nothing.
 use Prim.Native.Nat.{ℕ, _≤_, _<_}
 use mathlib.Core.Path.{_≡_}
-use mathlib.Core.Bool.{true}
+use mathlib.Core.Bool.{true, false}
 use mathlib.Core.Logic.{_⊎_, _↔_}
 use mathlib.Core.List.{List, [], _∷_, List·Memᴰ}
 use lib.ListN.{getD}
@@ -198,7 +198,7 @@ pub record Without-limit (g : Given) : Type 0 where
 pub record Demand3 (g : Given) : Type 0 where
   -- what the planner answers, by whether its trials are counted against a limit
   pub under-limit : counts (g .planner) ≡ true → Under-limit g
-  pub without-limit : g .planner ≡ Exact → Without-limit g
+  pub without-limit : counts (g .planner) ≡ false → Without-limit g
   -- and after `repaired` all that is said of its paths holds
   pub after : is-repaired (answer g) ≡ true → After-repaired g
 

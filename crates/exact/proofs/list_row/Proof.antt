@@ -34,37 +34,37 @@ loop-holds c = row-start _ _ _ (c .before .before .before .before .before .befor
 may-clash-requires : tie.Need-may-clash-requires Inv-loop μ-loop
 may-clash-requires c κs =
     let p = c .before .before .before .before .before .before .before .before .pre in
-    (p .0, p .2, both-below (c .before .loop .g) (length (c .before .before .before .before .before .before .before .before .args .starts .now)) (c .before .loop .end) 4096 (c .loop-test .taken) .0, p .1)
+    (p .0, p .2, both-below (c .before .loop .g) (length (c .before .before .before .before .before .before .before .before .args .starts .now)) (c .before .loop .end) 2048 (c .loop-test .taken) .0, p .1)
 
 cast-lists : tie.Need-cast-lists Inv-loop μ-loop
 cast-lists c =
-    let b = both-below (c .before .before .before .loop .g) (length (c .before .before .before .before .before .before .before .before .before .before .args .starts .now)) (c .before .before .before .loop .end) 4096 (c .before .before .loop-test .taken) in
+    let b = both-below (c .before .before .before .loop .g) (length (c .before .before .before .before .before .before .before .before .before .before .args .starts .now)) (c .before .before .before .loop .end) 2048 (c .before .before .loop-test .taken) in
     omega (arith, b .0, c .before .before .before .before .before .before .before .before .before .before .pre .0 .few)
 
 slice-write-lists : tie.Need-slice-write-lists Inv-loop μ-loop
 slice-write-lists c =
-    let b = both-below (c .before .before .before .loop .g) (length (c .before .before .before .before .before .before .before .before .before .before .args .starts .now)) (c .before .before .before .loop .end) 4096 (c .before .before .loop-test .taken) in
+    let b = both-below (c .before .before .before .loop .g) (length (c .before .before .before .before .before .before .before .before .before .before .args .starts .now)) (c .before .before .before .loop .end) 2048 (c .before .before .loop-test .taken) in
     omega (arith, b .1, c .before .before .before .loop .inv .long)
 
 add-end : tie.Need-add-end Inv-loop μ-loop
 add-end c =
-    let b = both-below (c .before .before .before .loop .g) (length (c .before .before .before .before .before .before .before .before .before .before .args .starts .now)) (c .before .before .before .loop .end) 4096 (c .before .before .loop-test .taken) in
+    let b = both-below (c .before .before .before .loop .g) (length (c .before .before .before .before .before .before .before .before .before .before .args .starts .now)) (c .before .before .before .loop .end) 2048 (c .before .before .loop-test .taken) in
     omega (arith, b .1)
 
 add-g : tie.Need-add-g Inv-loop μ-loop
 add-g c =
-    let b = both-below (c .before .before .before .loop .g) (length (c .before .before .before .before .before .before .before .before .before .before .args .starts .now)) (c .before .before .before .loop .end) 4096 (c .before .before .loop-test .taken) in
+    let b = both-below (c .before .before .before .loop .g) (length (c .before .before .before .before .before .before .before .before .before .before .args .starts .now)) (c .before .before .before .loop .end) 2048 (c .before .before .loop-test .taken) in
     omega (arith, b .0, c .before .before .before .before .before .before .before .before .before .before .pre .0 .few)
 
 loop-less : tie.Need-loop-less Inv-loop μ-loop
 loop-less c =
-    let b = both-below (c .before .before .before .loop .g) (length (c .before .before .before .before .before .before .before .before .before .before .args .starts .now)) (c .before .before .before .loop .end) 4096 (c .before .before .loop-test .taken) in
+    let b = both-below (c .before .before .before .loop .g) (length (c .before .before .before .before .before .before .before .before .before .before .args .starts .now)) (c .before .before .before .loop .end) 2048 (c .before .before .loop-test .taken) in
     omega (arith, b .0)
 
 loop-again : tie.Need-loop-again Inv-loop μ-loop
 loop-again c =
     let v = c .before .before .before .loop .inv in
-    let b = both-below (c .before .before .before .loop .g) (length (c .before .before .before .before .before .before .before .before .before .before .args .starts .now)) (c .before .before .before .loop .end) 4096 (c .before .before .loop-test .taken) in
+    let b = both-below (c .before .before .before .loop .g) (length (c .before .before .before .before .before .before .before .before .before .before .args .starts .now)) (c .before .before .before .loop .end) 2048 (c .before .before .loop-test .taken) in
     let e = c .before .may-clash .ensures in
     ⊎-elim (λ w. rw (w .1, w .2) (row-name _ _ _ v (b .0) (b .1) (e .yes (w .0 .taken))))
     (λ w. rw (w .1, w .2) (row-pass _ _ _ v (b .0) (e .no (w .0 .left)))) (c .if1 .came)
