@@ -56,7 +56,8 @@ furthest goes far (suc n) =
       below = omega (arith, f .below);
       passes = f .passes;
       most = λ j h g.
-          by-lt j n (λ b. f .most j b g) (λ b. let e : j ≡ n = omega arith in absurd (true≢false (sym (rw e at g) ∙ t)));
+          by-lt j n (λ b. f .most j b g) (λ b. let e : j ≡ n = omega arith in absurd (true≢false (sym (rw e at g) ∙
+              t)));
     }))
     (furthest goes far n))
   where
@@ -168,17 +169,21 @@ module _ (count : ℕ) (starts : ℕ → ℕ) (Us Vs : ℕ → ℕ) (first : Us 
     pb = end-of count starts 1023 b
 
     record Sided : Type 0 where
-      pub south-side : (k : ℕ) → k < count → q k ≡ 1 → u k ≤ Us pa → cond (ltb (Vs pa) (Vs pb)) (ltb (Vs pa) (v k)) (ltb (v k) (Vs pa)) ≡ true
-      pub north-side : (k : ℕ) → k < count → q k ≡ 2 → Us pb ≤ u k → cond (ltb (Vs pa) (Vs pb)) (ltb (v k) (Vs pb)) (ltb (Vs pb) (v k)) ≡ true
+      pub south-side : (k : ℕ) → k < count → q k ≡ 1 → u k ≤ Us pa → cond (ltb (Vs pa) (Vs pb)) (ltb (Vs pa) (v k))
+          (ltb (v k) (Vs pa)) ≡ true
+      pub north-side : (k : ℕ) → k < count → q k ≡ 2 → Us pb ≤ u k → cond (ltb (Vs pa) (Vs pb)) (ltb (v k) (Vs pb))
+          (ltb (Vs pb) (v k)) ≡ true
 
     -- the path north from a, where some fault is not below it, and the path south from b
     module _ (k : ℕ) (l : k < count) where
-      clear-of-north : (P : ℕ → ℕ → Type 0) → ((f : ℕ) → f < count → q f ≡ 2 → P (u f) (v f)) → u k ≤ Us pa → P (Us pa) (Vs pa)
+      clear-of-north : (P : ℕ → ℕ → Type 0) → ((f : ℕ) → f < count → q f ≡ 2 → P (u f) (v f)) → u k ≤ Us pa → P (Us
+          pa) (Vs pa)
       clear-of-north P h g =
           let below = low .there (omega (arith, inside k l)) in
           rw (end-there count starts 0 a below) (h a below (low .goes below))
 
-      clear-of-south : (P : ℕ → ℕ → Type 0) → ((f : ℕ) → f < count → q f ≡ 1 → P (u f) (v f)) → Us pb ≤ u k → P (Us pb) (Vs pb)
+      clear-of-south : (P : ℕ → ℕ → Type 0) → ((f : ℕ) → f < count → q f ≡ 1 → P (u f) (v f)) → Us pb ≤ u k → P (Us
+          pb) (Vs pb)
       clear-of-south P h g =
           let below = high .there (omega (arith, inside k l)) in
           rw (end-there count starts 1023 b below) (h b below (high .goes below))
@@ -200,12 +205,16 @@ module _ (count : ℕ) (starts : ℕ → ℕ) (Us Vs : ℕ → ℕ) (first : Us 
           (λ g. or-right (ltb (u k) (Us pb)) _ (s .north-side k l e g)))
       by-way s d e east =
           and-both (ltb (Us pa) (u k) || ltb (Vs pa) (v k)) (ltb (u k) (Us pb) || ltb (Vs pb) (v k))
-          (less-or (Us pa) (u k) (Vs pa) (v k) (λ g. clear-of-north (λ x y. u k ≤ x → v k ≤ y → ⊥) (λ f h i. cross .north-east f k h l i e) g g))
-          (less-or (u k) (Us pb) (Vs pb) (v k) (λ g. clear-of-south (λ x y. x ≤ u k → v k ≤ y → ⊥) (λ f h i. cross .south-east f k h l i e) g g))
+          (less-or (Us pa) (u k) (Vs pa) (v k) (λ g. clear-of-north (λ x y. u k ≤ x → v k ≤ y → ⊥) (λ f h i. cross
+              .north-east f k h l i e) g g))
+          (less-or (u k) (Us pb) (Vs pb) (v k) (λ g. clear-of-south (λ x y. x ≤ u k → v k ≤ y → ⊥) (λ f h i. cross
+              .south-east f k h l i e) g g))
       by-way s d e west =
           and-both (ltb (Us pa) (u k) || ltb (v k) (Vs pa)) (ltb (u k) (Us pb) || ltb (v k) (Vs pb))
-          (less-or (Us pa) (u k) (v k) (Vs pa) (λ g. clear-of-north (λ x y. u k ≤ x → y ≤ v k → ⊥) (λ f h i. cross .north-west f k h l i e) g g))
-          (less-or (u k) (Us pb) (v k) (Vs pb) (λ g. clear-of-south (λ x y. x ≤ u k → y ≤ v k → ⊥) (λ f h i. cross .south-west f k h l i e) g g))
+          (less-or (Us pa) (u k) (v k) (Vs pa) (λ g. clear-of-north (λ x y. u k ≤ x → y ≤ v k → ⊥) (λ f h i. cross
+              .north-west f k h l i e) g g))
+          (less-or (u k) (Us pb) (v k) (Vs pb) (λ g. clear-of-south (λ x y. x ≤ u k → y ≤ v k → ⊥) (λ f h i. cross
+              .south-west f k h l i e) g g))
 
       leaves-it : Sided → Way (q k) → fits (Us pa) (Vs pa) (Us pb) (Vs pb) (u k) (v k) (q k) ≡ true
       leaves-it s w = by-way s (q k) refl w
@@ -219,7 +228,8 @@ module _ (count : ℕ) (starts : ℕ → ℕ) (Us Vs : ℕ → ℕ) (first : Us 
 
 -- The numbers of a pinwheel: paths north from (un, vn), south from (us, vs), west from (uw, vw) and east from (ue, ve).
 module _ (un vn us vs uw vw ue ve : ℕ) (rows : us ≤ un) (columns : ve ≤ vw)
-    (nw : uw ≤ un → vn ≤ vw → ⊥) (ne : ue ≤ un → ve ≤ vn → ⊥) (sw : us ≤ uw → vs ≤ vw → ⊥) (se : us ≤ ue → ve ≤ vs → ⊥) where
+    (nw : uw ≤ un → vn ≤ vw → ⊥) (ne : ue ≤ un → ve ≤ vn → ⊥) (sw : us ≤ uw → vs ≤ vw → ⊥) (se : us ≤ ue → ve ≤ vs →
+        ⊥) where
   one-way : vn < vs → ((un < uw) × (vn < vw)) × ((ue < us) × (ve < vs))
   one-way h =
       by-lt un ue
@@ -294,7 +304,8 @@ module _ (count : ℕ) (starts q : ℕ → ℕ) (straight : (k : ℕ) → k < co
   -- the ends found, with what is known of them
   module _ (n s w e : ℕ)
       (ln : Lowest count starts row column refl refl rows q n) (hs : Highest count starts row column refl refl rows q s)
-      (lw : Lowest count starts column row refl refl columns q′ w) (he : Highest count starts column row refl refl columns q′ e) where
+      (lw : Lowest count starts column row refl refl columns q′ w) (he : Highest count starts column row refl refl
+          columns q′ e) where
     abbrev pn : ℕ
     pn = end-of count starts 0 n
 
@@ -307,7 +318,8 @@ module _ (count : ℕ) (starts q : ℕ → ℕ) (straight : (k : ℕ) → k < co
     abbrev pe : ℕ
     pe = end-of count starts 1023 e
 
-    pair-of-rows : tried false pn ps ≡ true → Sided count starts row column refl refl rows q cross n s ln hs → Covered count starts q false n s
+    pair-of-rows : tried false pn ps ≡ true → Sided count starts row column refl refl rows q cross n s ln hs →
+        Covered count starts q false n s
     unfolding leaves
     pair-of-rows t z = record {
       a-within = ln .within;

@@ -40,7 +40,8 @@ use Rattle.exact.proofs.Spares.{no-more, spare, spare-below, spares-dif
 pub after-later : (xs ys : List ℕ) → length xs ≡ length ys → Not-after xs ys → Not-later (length xs) (at xs) (at ys)
 after-later [] ys h n = inl (λ j l. absurd (not-suc-le-zero l))
 after-later (x ∷ xs) [] h n = absurd n
-after-later (x ∷ xs) (y ∷ ys) h (inl l) = inr (record { i = 0; below = omega arith; before = λ j m. absurd (not-suc-le-zero m); more = l })
+after-later (x ∷ xs) (y ∷ ys) h (inl l) = inr (record { i = 0; below = omega arith; before = λ j m. absurd
+    (not-suc-le-zero m); more = l })
 after-later (x ∷ xs) (y ∷ ys) h (inr (e, n)) = on (after-later xs ys (omega (arith, h)) n)
   where
     first : {k : ℕ} → ((j : ℕ) → j < k → at ys j ≡ at xs j) → (j : ℕ) → j < suc k → at (y ∷ ys) j ≡ at (x ∷ xs) j
@@ -49,10 +50,12 @@ after-later (x ∷ xs) (y ∷ ys) h (inr (e, n)) = on (after-later xs ys (omega 
 
     on : Not-later (length xs) (at xs) (at ys) → Not-later (suc (length xs)) (at (x ∷ xs)) (at (y ∷ ys))
     on (inl f) = inl (first f)
-    on (inr w) = inr (record { i = suc (w .i); below = omega (arith, w .below); before = first (w .before); more = w .more })
+    on (inr w) = inr (record { i = suc (w .i); below = omega (arith, w .below); before = first (w .before); more = w
+        .more })
 
 -- neither of two is later: they are the same
-pub never-later : {count : ℕ} {a b : ℕ → ℕ} → Not-later count a b → Not-later count b a → (j : ℕ) → j < count → b j ≡ a j
+pub never-later : {count : ℕ} {a b : ℕ → ℕ} → Not-later count a b → Not-later count b a → (j : ℕ) → j < count → b j ≡
+    a j
 never-later (inl e) n j l = e j l
 never-later (inr w) n j l = let z = later-then w n in absurd (omega (arith, z .more))
 
@@ -103,7 +106,8 @@ module _ (n m : ℕ) (grid : List ℕ) where
         let ahead : (i j : ℕ) → i < j → j < length fs → clears-on fs i (at xs i) j (at xs j) ≡ true
         = λ i j l h.
         sym
-        (same-clear i j (at xs i) (at xs j) (omega arith) h (λ e. omega arith) (ways xs p i (omega arith)) (ways xs p j h))
+        (same-clear i j (at xs i) (at xs j) (omega arith) h (λ e. omega arith) (ways xs p i (omega arith)) (ways xs p
+            j h))
         ∙ plan-clear xs p i j l h in
         record {
           straight = ways xs p;
@@ -115,7 +119,8 @@ module _ (n m : ℕ) (grid : List ℕ) where
               (λ b. clear-comm 30 30 (at fs i) (at xs i) (at fs j) (at xs j) ∙ ahead j i (omega arith) h);
         }
 
-    fit-plan : (best : List ℕ) → length fs ≤ length best → Fit-on fs table (at best) → Plan n m grid (take (length fs) best)
+    fit-plan : (best : List ℕ) → length fs ≤ length best → Fit-on fs table (at best) → Plan n m grid (take (length
+        fs) best)
     fit-plan best room f =
         let front = take (length fs) best in
         let many : length front ≡ length fs = length-take-le (length fs) best room in
@@ -141,7 +146,8 @@ module _ (n m : ℕ) (grid : List ℕ) where
           open-path = λ k l.
               let b : k < length fs = omega arith in
               let s = f .straight k b in
-              ap (is-open n m grid (at fs k)) (same k b) ∙ sym (tabled k (at best k) b (s .0) (s .1)) ∙ f .open-path k b;
+              ap (is-open n m grid (at fs k)) (same k b) ∙ sym (tabled k (at best k) b (s .0) (s .1)) ∙ f .open-path
+                  k b;
           no-meeting = λ i j h l. far i j h (omega arith) .0;
           no-near-miss = λ i j h l. far i j h (omega arith) .1;
         }
@@ -193,7 +199,8 @@ module _ (n m : ℕ) (grid : List ℕ) where
           let many : length front ≡ length fs = length-take-le (length fs) b₂ room in
           let wide : length xs ≡ length fs = f .is-plan .one-path .one-each in
           let l : Not-later (length fs) (at xs) (at front)
-          = subst (λ (k : ℕ). Not-later k (at xs) (at front)) wide (after-later xs front (wide ∙ sym many) (f .none-before front p)) in
+          = subst (λ (k : ℕ). Not-later k (at xs) (at front)) wide (after-later xs front (wide ∙ sym many) (f
+              .none-before front p)) in
           let g : Not-later (length fs) (at front) (at xs) = front-not-later b₂ (at xs) (b .1) in
           (b .0, ext-getD 0 front xs (many ∙ sym wide) (λ j k. never-later l g j (omega arith)))
         where
@@ -215,12 +222,14 @@ module _ (n m : ℕ) (grid : List ℕ) where
           by (found k xs) e = first-best xs (trial-rule .first-of-plans n m k grid xs e)
           by (exhausted k) e =
               let blocked = trial-rule .none-found n m k grid e in (
-                by-bool h₂ (λ t. let p = best-plan t in absurd (plan-not-blocked n m grid _ p (blocked _ (p .one-path)))) (λ t. t),
+                by-bool h₂ (λ t. let p = best-plan t in absurd (plan-not-blocked n m grid _ p (blocked _ (p
+                    .one-path)))) (λ t. t),
                 tt,
               )
 
 -- where there is no plan the trials find none
-none-by : (front : List ℕ) (s : Search) → ((k : ℕ) (xs : List ℕ) → s ≡ found k xs → ⊥) → (false ≡ is-found s) × Holds-found s front
+none-by : (front : List ℕ) (s : Search) → ((k : ℕ) (xs : List ℕ) → s ≡ found k xs → ⊥) → (false ≡ is-found s) ×
+    Holds-found s front
 none-by front (found k xs) none = absurd (none k xs refl)
 none-by front (exhausted k) none = (refl, tt)
 
@@ -279,7 +288,8 @@ faults-placed n m grid starts e a b h =
       inside =
           subst (λ (l : List ℕ). (k : ℕ) → k < length l → inner n m (getD l k 0) ≡ true) (sym e)
           (λ i l. and-true (inner n m (getD (faults n m grid) i 0)) _ (fault-hit n m grid i l .passes) .0);
-      ascend = subst (λ (l : List ℕ). (i j : ℕ) → i < j → j < length l → getD l i 0 < getD l j 0) (sym e) (faults-rise n m grid);
+      ascend = subst (λ (l : List ℕ). (i j : ℕ) → i < j → j < length l → getD l i 0 < getD l j 0) (sym e)
+          (faults-rise n m grid);
     }
 
 -- the buffer written
@@ -299,7 +309,8 @@ found-written n m grid starts best directions f e p h q =
     ∙ ap (λ (l : List ℕ). directions-found l (planned n m grid)) e
 
 -- more faults than spares
-pub too-many : (n m : ℕ) (grid starts : List ℕ) → starts ≡ faults n m grid → n ≤ 30 → m ≤ 30 → 2 * (n + m) < length starts
+pub too-many : (n m : ℕ) (grid starts : List ℕ) → starts ≡ faults n m grid → n ≤ 30 → m ≤ 30 → 2 * (n + m) < length
+    starts
     → (false ≡ is-found (planned n m grid)) × (zeros ≡ directions-found (faults n m grid) (planned n m grid))
 too-many n m grid starts e a b h =
     let none = none-found n m grid [] (λ xs p. omega (arith, plan-spares n m grid xs a b p, h, ap length e)) in (

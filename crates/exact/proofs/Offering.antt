@@ -15,7 +15,8 @@ use Rattle.exact.specs.Options.{at}
 use Rattle.exact.specs.Inner.{alone-in, offered, lowest, highest, Offers, Starved}
 use Rattle.exact.proofs.Masks.{two-options}
 
-between : (s n e w : Bool) → (lowest s n e w ≡ 0 → ⊥) → (1 ≤ lowest s n e w) × (lowest s n e w ≤ highest s n e w) × (highest s n e w ≤ 4)
+between : (s n e w : Bool) → (lowest s n e w ≡ 0 → ⊥) → (1 ≤ lowest s n e w) × (lowest s n e w ≤ highest s n e w) ×
+    (highest s n e w ≤ 4)
 between true true true true h = omega arith
 between true true true false h = omega arith
 between true true false true h = omega arith
@@ -41,15 +42,18 @@ none-passes false false false true h = absurd (omega arith)
 none-passes false false false false h = (refl, refl, refl, refl)
 
 -- Four tests of one fault, of which no three pass.
-module _ (f : ℕ → Bool) (few : (d e g : ℕ) → 1 ≤ d → d < e → e < g → g ≤ 4 → f d ≡ true → f e ≡ true → f g ≡ true → ⊥) where
-  lowest-passes : (s n e w : Bool) → s ≡ f 1 → n ≡ f 2 → e ≡ f 3 → w ≡ f 4 → (lowest s n e w ≡ 0 → ⊥) → f (lowest s n e w) ≡ true
+module _ (f : ℕ → Bool) (few : (d e g : ℕ) → 1 ≤ d → d < e → e < g → g ≤ 4 → f d ≡ true → f e ≡ true → f g ≡ true →
+    ⊥) where
+  lowest-passes : (s n e w : Bool) → s ≡ f 1 → n ≡ f 2 → e ≡ f 3 → w ≡ f 4 → (lowest s n e w ≡ 0 → ⊥) → f (lowest s n
+      e w) ≡ true
   lowest-passes true n e w a b c d h = sym a
   lowest-passes false true e w a b c d h = sym b
   lowest-passes false false true w a b c d h = sym c
   lowest-passes false false false true a b c d h = sym d
   lowest-passes false false false false a b c d h = absurd (h refl)
 
-  highest-passes : (s n e w : Bool) → s ≡ f 1 → n ≡ f 2 → e ≡ f 3 → w ≡ f 4 → (lowest s n e w ≡ 0 → ⊥) → f (highest s n e w) ≡ true
+  highest-passes : (s n e w : Bool) → s ≡ f 1 → n ≡ f 2 → e ≡ f 3 → w ≡ f 4 → (lowest s n e w ≡ 0 → ⊥) → f (highest s
+      n e w) ≡ true
   highest-passes s n e true a b c d h = sym d
   highest-passes s n true false a b c d h = sym c
   highest-passes s true false false a b c d h = sym b
@@ -64,19 +68,25 @@ module _ (f : ℕ → Bool) (few : (d e g : ℕ) → 1 ≤ d → d < e → e < g
   west-only s n e true h = refl
   west-only s n e false h = absurd (false≢true h)
 
-  north-only : (s n e w : Bool) → s ≡ f 1 → n ≡ f 2 → e ≡ f 3 → w ≡ f 4 → n ≡ true → (2 ≡ lowest s n e w) ⊎ (2 ≡ highest s n e w)
+  north-only : (s n e w : Bool) → s ≡ f 1 → n ≡ f 2 → e ≡ f 3 → w ≡ f 4 → n ≡ true → (2 ≡ lowest s n e w) ⊎ (2 ≡
+      highest s n e w)
   north-only s false e w a b c d h = absurd (false≢true h)
   north-only false true e w a b c d h = inl refl
   north-only true true false false a b c d h = inr refl
-  north-only true true true w a b c d h = absurd (few 1 2 3 (omega arith) (omega arith) (omega arith) (omega arith) (sym a) (sym b) (sym c))
-  north-only true true false true a b c d h = absurd (few 1 2 4 (omega arith) (omega arith) (omega arith) (omega arith) (sym a) (sym b) (sym d))
+  north-only true true true w a b c d h = absurd (few 1 2 3 (omega arith) (omega arith) (omega arith) (omega arith)
+      (sym a) (sym b) (sym c))
+  north-only true true false true a b c d h = absurd (few 1 2 4 (omega arith) (omega arith) (omega arith) (omega
+      arith) (sym a) (sym b) (sym d))
 
-  east-only : (s n e w : Bool) → s ≡ f 1 → n ≡ f 2 → e ≡ f 3 → w ≡ f 4 → e ≡ true → (3 ≡ lowest s n e w) ⊎ (3 ≡ highest s n e w)
+  east-only : (s n e w : Bool) → s ≡ f 1 → n ≡ f 2 → e ≡ f 3 → w ≡ f 4 → e ≡ true → (3 ≡ lowest s n e w) ⊎ (3 ≡
+      highest s n e w)
   east-only s n false w a b c d h = absurd (false≢true h)
   east-only s n true false a b c d h = inr refl
   east-only false false true true a b c d h = inl refl
-  east-only true n true true a b c d h = absurd (few 1 3 4 (omega arith) (omega arith) (omega arith) (omega arith) (sym a) (sym c) (sym d))
-  east-only false true true true a b c d h = absurd (few 2 3 4 (omega arith) (omega arith) (omega arith) (omega arith) (sym b) (sym c) (sym d))
+  east-only true n true true a b c d h = absurd (few 1 3 4 (omega arith) (omega arith) (omega arith) (omega arith)
+      (sym a) (sym c) (sym d))
+  east-only false true true true a b c d h = absurd (few 2 3 4 (omega arith) (omega arith) (omega arith) (omega
+      arith) (sym b) (sym c) (sym d))
 
   module _ (s n e w : Bool) (a : s ≡ f 1) (b : n ≡ f 2) (c : e ≡ f 3) (g : w ≡ f 4) where
     only-of : (d : ℕ) → Way d → f d ≡ true → (d ≡ lowest s n e w) ⊎ (d ≡ highest s n e w)
@@ -115,11 +125,15 @@ module _ (columns : Bool) (a b : ℕ) (starts table : List ℕ) where
         → offered columns a b starts table k e ≡ true → offered columns a b starts table k g ≡ true → ⊥
     few k d e g l m o h x y z =
         two-options columns a b (at starts k) d e g t l m o h
-        (and-true (alone-in table k d) _ x .1) (and-true (alone-in table k e) _ y .1) (and-true (alone-in table k g) _ z .1)
+        (and-true (alone-in table k d) _ x .1) (and-true (alone-in table k e) _ y .1) (and-true (alone-in table k g)
+            _ z .1)
 
-    module _ {k : ℕ} {lo hi : List ℕ} (v : Offering k lo hi) (l : k < length starts) {p : ℕ} (here : p ≡ at starts k) {s n e w : Bool}
-        (fs : s ≡ (alone-in table k 1 && leaves columns a b p 1)) (fn : n ≡ (alone-in table k 2 && leaves columns a b p 2))
-        (fe : e ≡ (alone-in table k 3 && leaves columns a b p 3)) (fw : w ≡ (alone-in table k 4 && leaves columns a b p 4)) where
+    module _ {k : ℕ} {lo hi : List ℕ} (v : Offering k lo hi) (l : k < length starts) {p : ℕ} (here : p ≡ at starts k)
+        {s n e w : Bool}
+        (fs : s ≡ (alone-in table k 1 && leaves columns a b p 1)) (fn : n ≡ (alone-in table k 2 && leaves columns a b
+            p 2))
+        (fe : e ≡ (alone-in table k 3 && leaves columns a b p 3)) (fw : w ≡ (alone-in table k 4 && leaves columns a b
+            p 4)) where
       abbrev f : ℕ → Bool
       f d = offered columns a b starts table k d
 
@@ -157,7 +171,8 @@ module _ (columns : Bool) (a b : ℕ) (starts table : List ℕ) where
             only = λ d i j. only-of f (few k) s n e w es en ee ew d (way d i j);
           }
 
-      pub offer-next : {x y : ℕ} → x ≡ lowest s n e w → (x ≡ 0 → ⊥) → y ≡ highest s n e w → Offering (k + 1) (set lo k x) (set hi k y)
+      pub offer-next : {x y : ℕ} → x ≡ lowest s n e w → (x ≡ 0 → ⊥) → y ≡ highest s n e w → Offering (k + 1) (set lo
+          k x) (set hi k y)
       offer-next {x} {y} ex ne ey =
           let o : Offer k x y = rw (ex, ey) (offer-here (λ z. ne (ex ∙ z))) in
           record {
@@ -168,11 +183,13 @@ module _ (columns : Bool) (a b : ℕ) (starts table : List ℕ) where
                 by-eq j k
                 (λ (z : j ≡ k).
                 rw z
-                (rw (getD-set-same lo k x 0 (omega (arith, v .low-long)), getD-set-same hi k y 0 (omega (arith, v .high-long))) o))
+                (rw (getD-set-same lo k x 0 (omega (arith, v .low-long)), getD-set-same hi k y 0 (omega (arith, v
+                    .high-long))) o))
                 (λ z. rw (getD-set-other lo k j x 0 z, getD-set-other hi k j y 0 z) (v .each j (omega arith)));
           }
 
-    pub offer-end : {k : ℕ} {lo hi : List ℕ} → Offering k lo hi → length starts ≤ k → Offers columns a b starts table lo hi
+    pub offer-end : {k : ℕ} {lo hi : List ℕ} → Offering k lo hi → length starts ≤ k → Offers columns a b starts table
+        lo hi
     offer-end v h = record {
       held = record {
         room = room;

@@ -41,7 +41,8 @@ nowhere-less (suc n) a b h = on (nowhere-less n a b (λ k l. h k (omega arith)))
     on (inr w) = inr (record { i = w .i; below = omega (arith, w .below); before = w .before; more = w .more })
     on (inl e) =
         by-lt (a n) (b n) (λ l. inr (record { i = n; below = omega arith; before = e; more = l }))
-        (λ l. inl (λ j m. by-lt j n (λ c. e j c) (λ c. let z : j ≡ n = omega arith in rw z (omega (arith, h n (omega arith))))))
+        (λ l. inl (λ j m. by-lt j n (λ c. e j c) (λ c. let z : j ≡ n = omega arith in rw z (omega (arith, h n (omega
+            arith))))))
 
 -- no solution of options comes before the least of them
 pub least-first : (starts lo hi : List ℕ) → Held (length starts) lo hi → (q : ℕ → ℕ)
@@ -54,12 +55,14 @@ least-first starts lo hi h q s =
 
 -- The solutions of some options.
 module _ (starts lo hi : List ℕ) (have : Bool) (best : List ℕ) where
-  pub takes-none : No-solution (length starts) (clears-on starts) (at lo) (at hi) → Takes starts lo hi have best have best
+  pub takes-none : No-solution (length starts) (clears-on starts) (at lo) (at hi) → Takes starts lo hi have best have
+      best
   takes-none h = record { kept = λ q e l. (e, l); added = λ q s. absurd (h q s); from = λ e. inl (e, refl) }
 
   -- the best so far is not later than what no solution comes before
   pub takes-old : (val : List ℕ) (before : Bool)
-      → ((q : ℕ → ℕ) → Solution (length starts) (clears-on starts) (at lo) (at hi) q → Not-later (length starts) (at val) q)
+      → ((q : ℕ → ℕ) → Solution (length starts) (clears-on starts) (at lo) (at hi) q → Not-later (length starts) (at
+          val) q)
       → (have && not before) ≡ true → (before ≡ false → Not-later (length starts) (at best) (at val))
       → Takes starts lo hi have best true best
   takes-old val before least h otherwise =
@@ -77,7 +80,8 @@ module _ (starts lo hi : List ℕ) (have : Bool) (best : List ℕ) where
 
   pub takes-new : (val : List ℕ) (before : Bool)
       → First-solution (length starts) (clears-on starts) (at lo) (at hi) (at val)
-      → (have && not before) ≡ false → (before ≡ true → Later (length starts) (at val) (at best)) → (new : List ℕ) → new ≡ val
+      → (have && not before) ≡ false → (before ≡ true → Later (length starts) (at val) (at best)) → (new : List ℕ) →
+          new ≡ val
       → Takes starts lo hi have best true new
   takes-new val before first h then new e =
       subst (λ (l : List ℕ). Takes starts lo hi have best true l) (sym e)
@@ -89,7 +93,8 @@ module _ (starts lo hi : List ℕ) (have : Bool) (best : List ℕ) where
 
 module _ (starts table : List ℕ) where
   -- nothing is added
-  pub better-skip : {P : (ℕ → ℕ) → Type 0} {have : Bool} {best : List ℕ} → ((q : ℕ → ℕ) → Fit-on starts table q → P q → ⊥)
+  pub better-skip : {P : (ℕ → ℕ) → Type 0} {have : Bool} {best : List ℕ} → ((q : ℕ → ℕ) → Fit-on starts table q → P q
+      → ⊥)
       → Bettered starts table P have best have best
   better-skip h = record { kept = λ q e l. (e, l); added = λ q f p. absurd (h q f p); plans = λ f. f }
 
@@ -116,7 +121,8 @@ module _ (starts table : List ℕ) where
 
   -- One pair.
   module _ (columns : Bool) (a b : ℕ) where
-    pub starved-none : Starved columns a b starts table → (q : ℕ → ℕ) → Fit-on starts table q → Left-by columns a b starts q → ⊥
+    pub starved-none : Starved columns a b starts table → (q : ℕ → ℕ) → Fit-on starts table q → Left-by columns a b
+        starts q → ⊥
     starved-none s q f p =
         let r = f .straight (s .k) (s .below) in
         true≢false
@@ -144,11 +150,13 @@ module _ (starts table : List ℕ) where
                 let x = o .held .low k l in
                 let y = o .held .ordered k l in
                 let z = o .held .high k l in
-                ⊎-elim (λ (e : q k ≡ at lo k). (omega arith, omega arith)) (λ (e : q k ≡ at hi k). (omega arith, omega arith))
+                ⊎-elim (λ (e : q k ≡ at lo k). (omega arith, omega arith)) (λ (e : q k ≡ at hi k). (omega arith,
+                    omega arith))
                 (s .within k l);
             open-path = λ k l.
                 ⊎-elim (λ (e : q k ≡ at lo k). ap (alone-in table k) e ∙ alone-of k (at lo k) (o .low-offered k l))
-                (λ (e : q k ≡ at hi k). ap (alone-in table k) e ∙ alone-of k (at hi k) (o .high-offered k l)) (s .within k l);
+                (λ (e : q k ≡ at hi k). ap (alone-in table k) e ∙ alone-of k (at hi k) (o .high-offered k l)) (s
+                    .within k l);
             apart = s .apart;
           }
 
@@ -250,7 +258,8 @@ module _ (k i : ℕ) (table : List ℕ) (e : i ≡ 4 * k) where
   there : (d j : ℕ) → 4 * k + d - 1 ≡ j → is-one j ≡ false → alone-in table k d ≡ false
   there d j z f = ap is-one z ∙ f
 
-  none-one : (is-one i || is-one (i + 1)) ≡ false → (is-one (i + 2) || is-one (i + 3)) ≡ false → (d : ℕ) → Way d → alone-in table k d ≡ false
+  none-one : (is-one i || is-one (i + 1)) ≡ false → (is-one (i + 2) || is-one (i + 3)) ≡ false → (d : ℕ) → Way d →
+      alone-in table k d ≡ false
   none-one v h d south = there 1 i (omega arith) (or-false (is-one i) (is-one (i + 1)) v .0)
   none-one v h d north = there 2 (i + 1) (omega arith) (or-false (is-one i) (is-one (i + 1)) v .1)
   none-one v h d east = there 3 (i + 2) (omega arith) (or-false (is-one (i + 2)) (is-one (i + 3)) h .0)

@@ -35,7 +35,8 @@ mark-less (x ∷ xs) (suc f) h e = by (eqb x 0) (mark-less xs f (le-of-suc-le-su
     by false r = r
 
 -- narrowed, what is marked stays closed
-pub marked-still : {count : ℕ} {clears : ℕ → ℕ → ℕ → ℕ → Bool} {lo hi lo′ hi′ done : ℕ → ℕ} → Narrowed count lo hi lo′ hi′
+pub marked-still : {count : ℕ} {clears : ℕ → ℕ → ℕ → ℕ → Bool} {lo hi lo′ hi′ done : ℕ → ℕ} → Narrowed count lo hi
+    lo′ hi′
     → Marked count clears lo hi done → Marked count clears lo′ hi′ done
 marked-still {count} {clears} t m f l ne = closed-still count clears t f l (m f l ne)
 
@@ -48,7 +49,8 @@ module _ (count : ℕ) (clears : ℕ → ℕ → ℕ → ℕ → Bool) where
     pub marked : Marked count clears (at lo′) (at hi′) (at done)
     pub next : Next 0 count (at lo′) (at hi′) (at done) f
 
-  pub spread-start : {lo hi done : List ℕ} {f : ℕ} → Held count lo hi → length done ≡ 128 → Marked count clears (at lo) (at hi) (at done)
+  pub spread-start : {lo hi done : List ℕ} {f : ℕ} → Held count lo hi → length done ≡ 128 → Marked count clears (at
+      lo) (at hi) (at done)
       → Next 0 count (at lo) (at hi) (at done) f → Spreading lo hi lo hi done f
   spread-start {lo} {hi} h d m x = record {
     done-long = d;
@@ -73,7 +75,8 @@ module _ (count : ℕ) (clears : ℕ → ℕ → ℕ → ℕ → Bool) where
       keeps = λ q z. t .keeps q (s .keeps q z);
       marked = λ j b ne.
           by-eq j f (λ e. subst (Closed-at count clears (at lo″) (at hi″)) (sym e) (t .closed))
-          (λ o. closed-still count clears (t .narrowed) j b (s .marked j b (λ e. ne (getD-set-other done f j 1 0 o ∙ e))));
+          (λ o. closed-still count clears (t .narrowed) j b (s .marked j b (λ e. ne (getD-set-other done f j 1 0 o ∙
+              e))));
       next = n;
     }
 
@@ -124,20 +127,25 @@ module _ (count : ℕ) (clears : ℕ → ℕ → ℕ → ℕ → Bool) where
     pub up-held : Held count low-up hi
     up-held = still-held held (length-set lo k (at hi k)) refl narrow-up
 
-    to-down : (q : ℕ → ℕ) → Solution count clears (at lo) (at hi) q → q k ≡ at lo k → Solution count clears (at lo) (at high-down) q
+    to-down : (q : ℕ → ℕ) → Solution count clears (at lo) (at hi) q → q k ≡ at lo k → Solution count clears (at lo)
+        (at high-down) q
     to-down q z e = record {
-      within = λ j l. by-eq j k (λ (x : j ≡ k). inl (rw x e)) (λ o. ⊎-elim (λ x. inl x) (λ x. inr (x ∙ sym (down-there j o))) (z .within j l));
+      within = λ j l. by-eq j k (λ (x : j ≡ k). inl (rw x e)) (λ o. ⊎-elim (λ x. inl x) (λ x. inr (x ∙ sym
+          (down-there j o))) (z .within j l));
       apart = z .apart;
     }
 
-    to-up : (q : ℕ → ℕ) → Solution count clears (at lo) (at hi) q → q k ≡ at hi k → Solution count clears (at low-up) (at hi) q
+    to-up : (q : ℕ → ℕ) → Solution count clears (at lo) (at hi) q → q k ≡ at hi k → Solution count clears (at low-up)
+        (at hi) q
     to-up q z e = record {
-      within = λ j l. by-eq j k (λ (x : j ≡ k). inr (rw x e)) (λ o. ⊎-elim (λ x. inl (x ∙ sym (up-there j o))) (λ x. inr x) (z .within j l));
+      within = λ j l. by-eq j k (λ (x : j ≡ k). inr (rw x e)) (λ o. ⊎-elim (λ x. inl (x ∙ sym (up-there j o))) (λ x.
+          inr x) (z .within j l));
       apart = z .apart;
     }
 
     -- with the lesser option
-    pub settled-down : {lo′ hi′ done : ℕ → ℕ} → at lo k < at hi k → Spread count clears (at lo) (at high-down) lo′ hi′ done
+    pub settled-down : {lo′ hi′ done : ℕ → ℕ} → at lo k < at hi k → Spread count clears (at lo) (at high-down) lo′
+        hi′ done
         → Settled count clears k (at lo) (at hi) lo′ hi′ done
     settled-down {lo′} l s =
         let t = stays (s .narrowed) k below (sym down-here) in
@@ -152,7 +160,8 @@ module _ (count : ℕ) (clears : ℕ → ℕ → ℕ → ℕ → Bool) where
               (z .within k below);
         }
 
-    pub not-down : No-solution count clears (at lo) (at high-down) → (q : ℕ → ℕ) → Solution count clears (at lo) (at hi) q → q k ≡ at lo k → ⊥
+    pub not-down : No-solution count clears (at lo) (at high-down) → (q : ℕ → ℕ) → Solution count clears (at lo) (at
+        hi) q → q k ≡ at lo k → ⊥
     not-down h q z e = h q (to-down q z e)
 
     -- with the greater one, where the lesser is ruled out
@@ -174,7 +183,8 @@ module _ (count : ℕ) (clears : ℕ → ℕ → ℕ → ℕ → Bool) where
       none-up h q z = h q (going-up q z)
 
     -- or with the one that it has
-    pub settled-already : {done : ℕ → ℕ} → at lo k ≡ at hi k → Closed count clears (at lo) (at hi) → Marked count clears (at lo) (at hi) done
+    pub settled-already : {done : ℕ → ℕ} → at lo k ≡ at hi k → Closed count clears (at lo) (at hi) → Marked count
+        clears (at lo) (at hi) done
         → Settled count clears k (at lo) (at hi) (at lo) (at hi) done
     settled-already e c m = record {
       narrowed = narrow-none count (at lo) (at hi);
@@ -212,7 +222,8 @@ module _ (count : ℕ) (clears : ℕ → ℕ → ℕ → ℕ → Bool) where
     pub marked : Marked count clears (at lo′) (at hi′) (at done)
     pub ones : (j : ℕ) → j < k → at lo′ j ≡ at hi′ j
     pub some : No-solution count clears (at lo′) (at hi′) → No-solution count clears (at lo) (at hi)
-    pub least : (q : ℕ → ℕ) → Solution count clears (at lo) (at hi) q → Solution count clears (at lo′) (at hi′) q ⊎ Later k (at lo′) q
+    pub least : (q : ℕ → ℕ) → Solution count clears (at lo) (at hi) q → Solution count clears (at lo′) (at hi′) q ⊎
+        Later k (at lo′) q
 
   module _ (comm : (i d j e : ℕ) → clears i d j e ≡ clears j e i d) where
     pub solve-start : {lo hi done : List ℕ} → length done ≡ 128 → Held count lo hi → Closed count clears (at lo) (at hi)
@@ -235,9 +246,11 @@ module _ (count : ℕ) (clears : ℕ → ℕ → ℕ → ℕ → Bool) where
       solve-none = s .some
 
       pub solve-next : {lo″ hi″ done″ : List ℕ} → k < count → length done″ ≡ 128
-          → Held count lo″ hi″ → Settled count clears k (at lo′) (at hi′) (at lo″) (at hi″) (at done″) → Solving lo hi (k + 1) lo″ hi″ done″
+          → Held count lo″ hi″ → Settled count clears k (at lo′) (at hi′) (at lo″) (at hi″) (at done″) → Solving lo
+              hi (k + 1) lo″ hi″ done″
       solve-next {lo″} {hi″} l d h t =
-          let same : (j : ℕ) → j < k → at lo″ j ≡ at lo′ j = λ j b. stays (t .narrowed) j (omega arith) (s .ones j b) .0 in
+          let same : (j : ℕ) → j < k → at lo″ j ≡ at lo′ j = λ j b. stays (t .narrowed) j (omega arith) (s .ones j b)
+              .0 in
           record {
             within = omega arith;
             done-long = d;
@@ -245,8 +258,10 @@ module _ (count : ℕ) (clears : ℕ → ℕ → ℕ → ℕ → Bool) where
             narrowed = narrow-more (s .narrowed) (t .narrowed);
             closed = t .closed;
             marked = t .marked;
-            ones = below-more (λ j. at lo″ j ≡ at hi″ j) k (λ j b. still-one (t .narrowed) j (omega arith) (s .ones j b)) (t .one);
-            some = λ none. s .some (λ q z. none (changed count clears comm (t .narrowed) (t .closed) q z) (survives count clears comm (t .narrowed) (t .closed) q z));
+            ones = below-more (λ j. at lo″ j ≡ at hi″ j) k (λ j b. still-one (t .narrowed) j (omega arith) (s .ones j
+                b)) (t .one);
+            some = λ none. s .some (λ q z. none (changed count clears comm (t .narrowed) (t .closed) q z) (survives
+                count clears comm (t .narrowed) (t .closed) q z));
             least = λ q z.
                 ⊎-elim
                 (λ now.
@@ -254,7 +269,8 @@ module _ (count : ℕ) (clears : ℕ → ℕ → ℕ → ℕ → Bool) where
                 (λ more. inr (record {
                   i = k;
                   below = omega arith;
-                  before = λ j b. ⊎-elim (λ e. e ∙ sym (same j b)) (λ e. e ∙ sym (s .ones j b) ∙ sym (same j b)) (now .within j (omega arith));
+                  before = λ j b. ⊎-elim (λ e. e ∙ sym (same j b)) (λ e. e ∙ sym (s .ones j b) ∙ sym (same j b)) (now
+                      .within j (omega arith));
                   more = more;
                 }))
                 (t .least q now))
@@ -363,12 +379,15 @@ module _ {clashes starts lists ends rest lo hi done : List ℕ} (k : ℕ)
         })
 
     pub up-judged : {r : Bool} {lo′ hi′ done′ : ℕ → ℕ}
-        → Judged r (Spread faults clear (at (set lo₁ k (at hi₁ k))) (at hi₁) lo′ hi′ done′) (No-solution faults clear (at (set lo₁ k (at hi₁ k))) (at hi₁))
+        → Judged r (Spread faults clear (at (set lo₁ k (at hi₁ k))) (at hi₁) lo′ hi′ done′) (No-solution faults clear
+            (at (set lo₁ k (at hi₁ k))) (at hi₁))
         → Judged r (Settled faults clear k (at lo) (at hi) lo′ hi′ done′) (No-solution faults clear (at lo) (at hi))
     up-judged {r} {lo′} {hi′} {done′} j =
         let i =
-        subst (λ (h : List ℕ). Judged r (Spread faults clear (at (set lo k (at h k))) (at h) lo′ hi′ done′) (No-solution faults clear (at (set lo k (at h k))) (at h))) (u .same-high)
-        (subst (λ (l : List ℕ). Judged r (Spread faults clear (at (set l k (at hi₁ k))) (at hi₁) lo′ hi′ done′) (No-solution faults clear (at (set l k (at hi₁ k))) (at hi₁))) (u .same-low) j) in
+        subst (λ (h : List ℕ). Judged r (Spread faults clear (at (set lo k (at h k))) (at h) lo′ hi′ done′)
+            (No-solution faults clear (at (set lo k (at h k))) (at h))) (u .same-high)
+        (subst (λ (l : List ℕ). Judged r (Spread faults clear (at (set l k (at hi₁ k))) (at hi₁) lo′ hi′ done′)
+            (No-solution faults clear (at (set l k (at hi₁ k))) (at hi₁))) (u .same-low) j) in
         record {
           yes = λ e. settled-up faults clear lo hi (s .held) k below (u .not-low) (i .yes e);
           no = λ e. none-up faults clear lo hi (s .held) k below (u .not-low) (i .no e);
@@ -376,7 +395,8 @@ module _ {clashes starts lists ends rest lo hi done : List ℕ} (k : ℕ)
 
 -- copied back
 pub settled-copied : {count : ℕ} {clears : ℕ → ℕ → ℕ → ℕ → Bool} {k : ℕ} {lo hi : ℕ → ℕ} {lo′ hi′ done′ x y z : List ℕ}
-    → x ≡ lo′ → y ≡ hi′ → z ≡ done′ → Settled count clears k lo hi (at lo′) (at hi′) (at done′) → Settled count clears k lo hi (at x) (at y) (at z)
+    → x ≡ lo′ → y ≡ hi′ → z ≡ done′ → Settled count clears k lo hi (at lo′) (at hi′) (at done′) → Settled count
+        clears k lo hi (at x) (at y) (at z)
 settled-copied ex ey ez s = rw (ex, ey, ez) s
 
 -- nothing marked

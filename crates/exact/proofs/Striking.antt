@@ -22,7 +22,8 @@ pub judge-no : {A B : Type 0} → B → Judged false A B
 judge-no b = record { yes = λ e. absurd (false≢true e); no = λ e. b }
 
 -- narrowed buffers of the same length still hold options
-pub still-held : {count : ℕ} {lo hi lo′ hi′ : List ℕ} → Held count lo hi → length lo′ ≡ length lo → length hi′ ≡ length hi
+pub still-held : {count : ℕ} {lo hi lo′ hi′ : List ℕ} → Held count lo hi → length lo′ ≡ length lo → length hi′ ≡
+    length hi
     → Narrowed count (at lo) (at hi) (at lo′) (at hi′) → Held count lo′ hi′
 still-held {count} {lo} {hi} {lo′} {hi′} h x y t = record {
   room = h .room;
@@ -66,8 +67,10 @@ module _ (starts lo hi : List ℕ) (f d g : ℕ) where
       → Strikes-one starts lo hi f d g a lo hi
   one-struck {a} ea one =
       let b : a ≡ clears-on starts f d g (at hi g) = ea ∙ ap (clears-on starts f d g) one in
-      let same : cond (clears-on starts f d g (at lo g)) (at lo g) (at hi g) ≡ at lo g = one-of (clears-on starts f d g (at lo g)) (sym one) in
-      let same-too : cond (clears-on starts f d g (at hi g)) (at hi g) (at lo g) ≡ at hi g = one-of (clears-on starts f d g (at hi g)) one in (
+      let same : cond (clears-on starts f d g (at lo g)) (at lo g) (at hi g) ≡ at lo g = one-of (clears-on starts f d
+          g (at lo g)) (sym one) in
+      let same-too : cond (clears-on starts f d g (at hi g)) (at hi g) (at lo g) ≡ at hi g = one-of (clears-on starts
+          f d g (at hi g)) one in (
         or-same a ∙ (λ i. ea i || b i),
         record {
           yes = λ e. (sym (ap (set lo g) same ∙ set-getD lo g 0), sym (ap (set hi g) same-too ∙ set-getD hi g 0));
@@ -77,7 +80,8 @@ module _ (starts lo hi : List ℕ) (f d g : ℕ) where
 
   pub none-struck : {a b : Bool} → a ≡ clears-on starts f d g (at lo g) → b ≡ clears-on starts f d g (at hi g)
       → not (a || b) ≡ true → Strikes-one starts lo hi f d g false lo hi
-  none-struck {a} {b} ea eb h = (sym (not-true (a || b) h) ∙ (λ i. ea i || eb i), record { yes = λ e. absurd (false≢true e); no = λ e. (refl, refl) })
+  none-struck {a} {b} ea eb h = (sym (not-true (a || b) h) ∙ (λ i. ea i || eb i), record { yes = λ e. absurd
+      (false≢true e); no = λ e. (refl, refl) })
 
   pub two-struck : {a b : Bool} {x y : ℕ} → a ≡ clears-on starts f d g (at lo g) → b ≡ clears-on starts f d g (at hi g)
       → (a || b) ≡ true → x ≡ cond a (at lo g) (at hi g) → y ≡ cond b (at hi g) (at lo g)
@@ -93,7 +97,8 @@ module _ (starts lo hi : List ℕ) (f d g : ℕ) where
     },
   )
 
-module _ (count : ℕ) (clears : ℕ → ℕ → ℕ → ℕ → Bool) (lo hi : List ℕ) (f : ℕ) (below : f < count) (one : at lo f ≡ at hi f) where
+module _ (count : ℕ) (clears : ℕ → ℕ → ℕ → ℕ → Bool) (lo hi : List ℕ) (f : ℕ) (below : f < count) (one : at lo f ≡ at
+    hi f) where
   abbrev Now : (ℕ → Type 0) → List ℕ → List ℕ → Type 0
   Now P lo′ hi′ = Striking count clears lo hi f P lo′ hi′
 
@@ -126,7 +131,8 @@ module _ (count : ℕ) (clears : ℕ → ℕ → ℕ → ℕ → Bool) (lo hi : 
         let t = stays (s .narrowed) f below one in
         ⊎-elim (λ e. e ∙ t .0) (λ e. e ∙ t .1 ∙ sym one) (z .within f below)
 
-    module _ (ne : f ≡ g → ⊥) {a b : Bool} (ea : a ≡ clears f (at lo f) g (at lo′ g)) (eb : b ≡ clears f (at lo f) g (at hi′ g)) where
+    module _ (ne : f ≡ g → ⊥) {a b : Bool} (ea : a ≡ clears f (at lo f) g (at lo′ g)) (eb : b ≡ clears f (at lo f) g
+        (at hi′ g)) where
       -- an option that a solution has passes
       passes : (q : ℕ → ℕ) → Solution count clears (at lo′) (at hi′) q
           → ((q g ≡ at lo′ g) × (a ≡ true)) ⊎ ((q g ≡ at hi′ g) × (b ≡ true))
@@ -152,7 +158,8 @@ module _ (count : ℕ) (clears : ℕ → ℕ → ℕ → ℕ → Bool) (lo hi : 
       low-here = getD-set-same lo′ g (cond a (at lo′ g) (at hi′ g)) 0 (omega (arith, s .held .low-long, s .held .room))
 
       high-here : at hi″ g ≡ cond b (at hi′ g) (at lo′ g)
-      high-here = getD-set-same hi′ g (cond b (at hi′ g) (at lo′ g)) 0 (omega (arith, s .held .high-long, s .held .room))
+      high-here = getD-set-same hi′ g (cond b (at hi′ g) (at lo′ g)) 0 (omega (arith, s .held .high-long, s .held
+          .room))
 
       low-there : (k : ℕ) → (k ≡ g → ⊥) → at lo″ k ≡ at lo′ k
       low-there k o = getD-set-other lo′ g k (cond a (at lo′ g) (at hi′ g)) 0 o
@@ -168,7 +175,8 @@ module _ (count : ℕ) (clears : ℕ → ℕ → ℕ → ℕ → Bool) (lo hi : 
               (λ (e : k ≡ g).
               rw e
               (⊎-elim (λ x. inl (low-here ∙ x .0, high-here ∙ x .1))
-              (λ x. inr (low-here ∙ x .0 ∙ sym high-here, ⊎-elim (λ y. inl (low-here ∙ y)) (λ y. inr (low-here ∙ y)) (x .1)))
+              (λ x. inr (low-here ∙ x .0 ∙ sym high-here, ⊎-elim (λ y. inl (low-here ∙ y)) (λ y. inr (low-here ∙ y))
+                  (x .1)))
               (pick-first a b (at lo′ g) (at hi′ g) h)))
               (λ o. inl (low-there k o, high-there k o));
         }
@@ -188,12 +196,14 @@ module _ (count : ℕ) (clears : ℕ → ℕ → ℕ → ℕ → Bool) (lo hi : 
           apart = z .apart;
         }
 
-        low-passes : (a b : Bool) → (a || b) ≡ true → (x y : ℕ) → a ≡ clears f (at lo f) g x → b ≡ clears f (at lo f) g y
+        low-passes : (a b : Bool) → (a || b) ≡ true → (x y : ℕ) → a ≡ clears f (at lo f) g x → b ≡ clears f (at lo f)
+            g y
             → clears f (at lo f) g (cond a x y) ≡ true
         low-passes true b t x y e i = sym e
         low-passes false b t x y e i = sym i ∙ t
 
-        high-passes : (a b : Bool) → (a || b) ≡ true → (x y : ℕ) → a ≡ clears f (at lo f) g x → b ≡ clears f (at lo f) g y
+        high-passes : (a b : Bool) → (a || b) ≡ true → (x y : ℕ) → a ≡ clears f (at lo f) g x → b ≡ clears f (at lo
+            f) g y
             → clears f (at lo f) g (cond b y x) ≡ true
         high-passes a true t x y e i = sym i
         high-passes true false t x y e i = sym e

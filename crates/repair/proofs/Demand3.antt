@@ -71,7 +71,8 @@ module _ (g : Given) (good : Good g) where
   rule : Planner-rule (g .planner) (g .n) (g .m) (g .grid)
   rule = planner-rule (g .n) (g .m) (g .grid) (good .map) (g .planner)
 
-  lengths : (long (g .directions) ≡ true) × (long (g .places) ≡ true) × (long (g .across) ≡ true) × (long (g .down) ≡ true)
+  lengths : (long (g .directions) ≡ true) × (long (g .places) ≡ true) × (long (g .across) ≡ true) × (long (g .down) ≡
+      true)
   lengths =
       let a = and-true (long (g .directions)) _ (good .lent) in
       let b = and-true (long (g .places)) _ (a .1) in
@@ -105,7 +106,8 @@ module _ (g : Given) (good : Good g) where
 
     spent-when : (answer g ≡ Planned (Spent (g .limit))) ↔ (g .limit < T-of g)
     spent-when = (
-      λ e. spent-above (g .limit) search (same-outcome (outcome (g .limit) search) (Spent (g .limit)) (sym answer-is ∙ e)),
+      λ e. spent-above (g .limit) search (same-outcome (outcome (g .limit) search) (Spent (g .limit)) (sym answer-is
+          ∙ e)),
       λ l. answer-is ∙ ap Planned (above-spent (g .limit) search l),
     )
 
@@ -113,7 +115,8 @@ module _ (g : Given) (good : Good g) where
     carries l =
         ⊎-elim (λ e. inl (answer-is ∙ ap Planned e)) (λ e. inr (answer-is ∙ ap Planned e)) (carried (g .limit) search l)
 
-    beyond-when : T-of g ≤ g .limit → (answer g ≡ Planned (Beyond (T-of g))) ↔ Every-choice-blocked (g .n) (g .m) (g .grid)
+    beyond-when : T-of g ≤ g .limit → (answer g ≡ Planned (Beyond (T-of g))) ↔ Every-choice-blocked (g .n) (g .m) (g
+        .grid)
     beyond-when l = (
       λ e.
           rule .none-found (count search)
@@ -125,7 +128,8 @@ module _ (g : Given) (good : Good g) where
           ∙ ap Planned (exhausted-beyond (g .limit) (count search) l),
     )
 
-    repaired-else : T-of g ≤ g .limit → (Every-choice-blocked (g .n) (g .m) (g .grid) → ⊥) → answer g ≡ Planned (Repaired (T-of g))
+    repaired-else : T-of g ≤ g .limit → (Every-choice-blocked (g .n) (g .m) (g .grid) → ⊥) → answer g ≡ Planned
+        (Repaired (T-of g))
     repaired-else l b = ⊎-elim (λ e. e) (λ e. absurd (b (beyond-when l .0 e))) (carries l)
 
     pub limited : Under-limit g
@@ -212,7 +216,8 @@ module _ (g : Given) (good : Good g) where
     grid-long = formed n m grid (good .map) .length-is
 
     -- 1 to 7 pass, whichever other buffers of their length are lent
-    passes : (others : List (List ℕ)) → all-long others ≡ true → plan-test n m (grid ∷ dirs ∷ others) grid dirs ≡ Accepted
+    passes : (others : List (List ℕ)) → all-long others ≡ true → plan-test n m (grid ∷ dirs ∷ others) grid dirs ≡
+        Accepted
     passes others h =
         plan-lent n m grid dirs (long grid && (long dirs && all-long others)) checked
         (rw (eq-eqb (length grid) 1024 grid-long, eq-eqb (length dirs) 1024 (holds .length-right), h))
@@ -358,7 +363,8 @@ module _ (g : Given) (good : Good g) where
       after-found (repaired-as (g .planner) (g .limit) (g .n) (g .m) (g .grid) (ap is-repaired (sym answer-as) ∙ e))
 
   whole-run : Demand3 g
-  whole-run = record { under-limit = limited; without-limit = λ c. unlimited (uncounted-exact (g .planner) c); after = after-repaired }
+  whole-run = record { under-limit = limited; without-limit = λ c. unlimited (uncounted-exact (g .planner) c); after
+      = after-repaired }
 
 pub demand-3 : Demand-3
 demand-3 g good = whole-run g good
@@ -415,13 +421,17 @@ exact-agrees g h x y same t e un =
     let m = g .m in
     let grid = g .grid in
     let s = planned n m grid in
-    let first : answer g ≡ Planned (outcome (g .limit) s) = answer-as g x ∙ ap (λ (pl : Planner). answer-by pl (g .limit) (planned-by pl n m grid)) t in
+    let first : answer g ≡ Planned (outcome (g .limit) s) = answer-as g x ∙ ap (λ (pl : Planner). answer-by pl (g
+        .limit) (planned-by pl n m grid)) t in
     let left : planned-directions g ≡ directions-written (g .limit) [] (faults n m grid) s
-    = directions-are g x ∙ ap (λ (pl : Planner). buffer-by pl (g .limit) (kept-by pl n m grid) (left-by pl n m grid) (planned-by pl n m grid)) t in
+    = directions-are g x ∙ ap (λ (pl : Planner). buffer-by pl (g .limit) (kept-by pl n m grid) (left-by pl n m grid)
+        (planned-by pl n m grid)) t in
     let second : answer h ≡ Decided (decided s)
-    = rw (same .rows, same .columns, same .marks) (answer-as h y ∙ ap (λ (pl : Planner). answer-by pl (h .limit) (planned-by pl (h .n) (h .m) (h .grid))) e) in
+    = rw (same .rows, same .columns, same .marks) (answer-as h y ∙ ap (λ (pl : Planner). answer-by pl (h .limit)
+        (planned-by pl (h .n) (h .m) (h .grid))) e) in
     let found : planned-directions h ≡ directions-found (faults n m grid) s
     = rw (same .rows, same .columns, same .marks) (directions-are h y
-    ∙ ap (λ (pl : Planner). buffer-by pl (h .limit) (kept-by pl (h .n) (h .m) (h .grid)) (left-by pl (h .n) (h .m) (h .grid)) (planned-by pl (h .n) (h .m) (h .grid))) e) in
+    ∙ ap (λ (pl : Planner). buffer-by pl (h .limit) (kept-by pl (h .n) (h .m) (h .grid)) (left-by pl (h .n) (h .m) (h
+        .grid)) (planned-by pl (h .n) (h .m) (h .grid))) e) in
     let a = agreeing (g .limit) (faults n m grid) s (λ z. un (first ∙ ap Planned z)) in
     (ap is-repaired second ∙ a .0 ∙ sym (ap is-repaired first), found ∙ a .1 ∙ sym left)

@@ -64,7 +64,8 @@ loop-again c =
     let l = c .before .before .before .before .before .loop in
     let wide = c .before .before .wide in (
       l .inv .0,
-      table-next _ _ _ _ (l .inv .1) _ _ _ (omega arith) (s .pre .0 .short) (wide .ensures) (c .before .is-open .ensures)
+      table-next _ _ _ _ (l .inv .1) _ _ _ (omega arith) (s .pre .0 .short) (wide .ensures) (c .before .is-open
+          .ensures)
           (c .pick .ensures),
     )
 

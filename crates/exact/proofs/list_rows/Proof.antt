@@ -34,16 +34,19 @@ loop-less : tie.Need-loop-less Inv-loop μ-loop
 loop-less c = omega arith
 
 loop-again : tie.Need-loop-again Inv-loop μ-loop
-loop-again c = (refl, rows-next _ _ _ (c .before .before .before .before .before .before .before .before .before .before .before .loop .inv .1) (c .before .before .before .before .before .before .list-row .ensures))
+loop-again c = (refl, rows-next _ _ _ (c .before .before .before .before .before .before .before .before .before
+    .before .before .loop .inv .1) (c .before .before .before .before .before .before .list-row .ensures))
 
 same-length : tie.Need-same-length Inv-loop μ-loop
 same-length c = c .before .loop .inv .1 .long ∙ sym (c .before .before .before .before .before .before .before .pre .2)
 
 same-length-2 : tie.Need-same-length-2 Inv-loop μ-loop
-same-length-2 c = c .before .loop .inv .1 .ends-long ∙ sym (c .before .before .before .before .before .before .before .pre .3)
+same-length-2 c = c .before .loop .inv .1 .ends-long ∙ sym (c .before .before .before .before .before .before .before
+    .pre .3)
 
 same-length-3 : tie.Need-same-length-3 Inv-loop μ-loop
-same-length-3 c = c .before .loop .inv .1 .rest-long ∙ sym (c .before .before .before .before .before .before .before .pre .4)
+same-length-3 c = c .before .loop .inv .1 .rest-long ∙ sym (c .before .before .before .before .before .before .before
+    .pre .4)
 
 returns : tie.Need-returns Inv-loop μ-loop
 returns c = rows-end _ _ _ (c .before .loop .inv .1) (omega arith)

@@ -44,8 +44,10 @@ slice-aggregate-spread-3 c = search needs
 
 spread-requires : tie.Need-spread-requires
 spread-requires c κs =
-    let s = c .before .before .before .before .before .before .before .before .before .before .before .before .before .before .before .before .before .before .before .before .before .before .before in
-    let copy = c .before .before .before .before .before .before .before .before .before .before .before .before .before .copy in
+    let s = c .before .before .before .before .before .before .before .before .before .before .before .before .before
+        .before .before .before .before .before .before .before .before .before .before in
+    let copy = c .before .before .before .before .before .before .before .before .before .before .before .before
+        .before .copy in
     let copy2 = c .before .before .before .before .before .before .before .before .before .copy2 in
     let copy3 = c .before .before .before .before .before .copy3 in
     down-ready (s .args .k) (s .pre .0) (s .pre .1) (copy .ensures) (copy2 .ensures) (copy3 .ensures)
@@ -61,9 +63,13 @@ same-length-3 c = search needs
 
 returns : tie.Need-returns
 returns c =
-    let s = c .before .before .before .before .before .before .before .before .before .before .before .before .before .before .before .before .before .before .before .before .before .before .before .before .before .before .before .before in
-    let copy = c .before .before .before .before .before .before .before .before .before .before .before .before .before .before .before .before .before .before .copy in
-    let copy2 = c .before .before .before .before .before .before .before .before .before .before .before .before .before .before .copy2 in
+    let s = c .before .before .before .before .before .before .before .before .before .before .before .before .before
+        .before .before .before .before .before .before .before .before .before .before .before .before .before
+        .before .before in
+    let copy = c .before .before .before .before .before .before .before .before .before .before .before .before
+        .before .before .before .before .before .before .copy in
+    let copy2 = c .before .before .before .before .before .before .before .before .before .before .before .before
+        .before .before .copy2 in
     let spread = c .before .before .before .before .spread in (
       s .pre .0 .held,
       s .pre .0 .done-long,
@@ -76,7 +82,9 @@ slice-aggregate-copy-4 c = search needs
 
 copy-requires-4 : tie.Need-copy-requires-4
 copy-requires-4 c κs =
-    let s = c .before .before .before .before .before .before .before .before .before .before .before .before .before .before .before .before .before .before .before .before .before .before .before .before .before .before .before .before .before .before in
+    let s = c .before .before .before .before .before .before .before .before .before .before .before .before .before
+        .before .before .before .before .before .before .before .before .before .before .before .before .before
+        .before .before .before .before in
     let spread = c .before .before .before .before .before .before .spread in
     (spread .ensures .0 .low-long, s .pre .0 .held .low-long)
 
@@ -85,7 +93,9 @@ slice-aggregate-copy-5 c = search needs
 
 copy-requires-5 : tie.Need-copy-requires-5
 copy-requires-5 c κs =
-    let s = c .before .before .before .before .before .before .before .before .before .before .before .before .before .before .before .before .before .before .before .before .before .before .before .before .before .before .before .before .before .before .before .before .before .before .before in
+    let s = c .before .before .before .before .before .before .before .before .before .before .before .before .before
+        .before .before .before .before .before .before .before .before .before .before .before .before .before
+        .before .before .before .before .before .before .before .before .before in
     let spread = c .before .before .before .before .before .before .before .before .before .before .before .spread in
     (spread .ensures .0 .high-long, s .pre .0 .held .high-long)
 
@@ -94,8 +104,12 @@ slice-aggregate-copy-6 c = search needs
 
 copy-requires-6 : tie.Need-copy-requires-6
 copy-requires-6 c κs =
-    let s = c .before .before .before .before .before .before .before .before .before .before .before .before .before .before .before .before .before .before .before .before .before .before .before .before .before .before .before .before .before .before .before .before .before .before .before .before .before .before .before .before in
-    let spread = c .before .before .before .before .before .before .before .before .before .before .before .before .before .before .before .before .spread in
+    let s = c .before .before .before .before .before .before .before .before .before .before .before .before .before
+        .before .before .before .before .before .before .before .before .before .before .before .before .before
+        .before .before .before .before .before .before .before .before .before .before .before .before .before
+        .before in
+    let spread = c .before .before .before .before .before .before .before .before .before .before .before .before
+        .before .before .before .before .spread in
     (spread .ensures .1, s .pre .0 .done-long)
 
 same-length-4 : tie.Need-same-length-4
@@ -109,18 +123,29 @@ same-length-6 c = search needs
 
 returns-2 : tie.Need-returns-2
 returns-2 c =
-    let s = c .before .before .before .before .before .before .before .before .before .before .before .before .before .before .before .before .before .before .before .before .before .before .before .before .before .before .before .before .before .before .before .before .before .before .before .before .before .before .before .before .before .before .before in
-    let copy = c .before .before .before .before .before .before .before .before .before .before .before .before .before .before .before .before .before .before .before .before .before .before .before .before .before .before .before .before .before .before .before .before .before .copy in
-    let copy2 = c .before .before .before .before .before .before .before .before .before .before .before .before .before .before .before .before .before .before .before .before .before .before .before .before .before .before .before .before .before .copy2 in
-    let spread = c .before .before .before .before .before .before .before .before .before .before .before .before .before .before .before .before .before .before .before .spread in
-    let if1 = c .before .before .before .before .before .before .before .before .before .before .before .before .before .before .before .if1 in
-    let copy4 = c .before .before .before .before .before .before .before .before .before .before .before .before .copy4 in
+    let s = c .before .before .before .before .before .before .before .before .before .before .before .before .before
+        .before .before .before .before .before .before .before .before .before .before .before .before .before
+        .before .before .before .before .before .before .before .before .before .before .before .before .before
+        .before .before .before .before in
+    let copy = c .before .before .before .before .before .before .before .before .before .before .before .before
+        .before .before .before .before .before .before .before .before .before .before .before .before .before
+        .before .before .before .before .before .before .before .before .copy in
+    let copy2 = c .before .before .before .before .before .before .before .before .before .before .before .before
+        .before .before .before .before .before .before .before .before .before .before .before .before .before
+        .before .before .before .before .copy2 in
+    let spread = c .before .before .before .before .before .before .before .before .before .before .before .before
+        .before .before .before .before .before .before .before .spread in
+    let if1 = c .before .before .before .before .before .before .before .before .before .before .before .before
+        .before .before .before .if1 in
+    let copy4 = c .before .before .before .before .before .before .before .before .before .before .before .before
+        .copy4 in
     let copy5 = c .before .before .before .before .before .before .before .copy5 in
     let copy6 = c .before .before .copy6 in
     let e = spread .ensures in (
       held-copied (copy4 .ensures) (copy5 .ensures) (e .0),
       ap length (copy6 .ensures) ∙ e .1,
-      judge-yes (settled-copied (copy4 .ensures) (copy5 .ensures) (copy6 .ensures) (down-yes (s .args .k) (s .pre .0) (s .pre .1)
+      judge-yes (settled-copied (copy4 .ensures) (copy5 .ensures) (copy6 .ensures) (down-yes (s .args .k) (s .pre .0)
+          (s .pre .1)
           (copy .ensures) (copy2 .ensures) (s .pre .2) (e .2 .yes (not-false _ (if1 .left))))),
     )
 

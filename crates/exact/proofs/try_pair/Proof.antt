@@ -19,8 +19,10 @@ set-options-requires c κs = search needs
 returns : tie.Need-returns
 returns c =
     let a = c .before .before .before .before .before .before .before .before .before .before .before .before .args in (
-      c .before .before .before .before .before .before .before .before .before .before .before .before .pre .0 .best-long,
-      better-skip (a .starts .now) (a .table .now) (starved-none (a .starts .now) (a .table .now) (a .columns) (a .a) (a .b) (c .before .before .before .set-options .ensures .no (not-true _ (c .if1 .taken)))),
+      c .before .before .before .before .before .before .before .before .before .before .before .before .pre .0
+          .best-long,
+      better-skip (a .starts .now) (a .table .now) (starved-none (a .starts .now) (a .table .now) (a .columns) (a .a)
+          (a .b) (c .before .before .before .set-options .ensures .no (not-true _ (c .if1 .taken)))),
     )
 
 slice-aggregate-try-options : tie.Need-slice-aggregate-try-options
@@ -31,8 +33,10 @@ slice-aggregate-try-options-2 c = search needs
 
 try-options-requires : tie.Need-try-options-requires
 try-options-requires c κs =
-    let s = c .before .before .before .before .before .before .before .before .before .before .before .before .before .before .before in
-    let o = c .before .before .before .before .before .before .set-options .ensures .yes (not-false _ (c .before .before .before .if1 .left)) in
+    let s = c .before .before .before .before .before .before .before .before .before .before .before .before .before
+        .before .before in
+    let o = c .before .before .before .before .before .before .set-options .ensures .yes (not-false _ (c .before
+        .before .before .if1 .left)) in
     (s .pre .0 .sited, o .held, s .pre .0 .best-long, offers-listed o (s .pre .0 .listed))
 
 same-length : tie.Need-same-length
@@ -40,8 +44,10 @@ same-length c = search needs
 
 returns-2 : tie.Need-returns-2
 returns-2 c =
-    let a = c .before .before .before .before .before .before .before .before .before .before .before .before .before .before .before .before .before .before .before .before .args in
-    let o = c .before .before .before .before .before .before .before .before .before .before .before .set-options .ensures .yes (not-false _ (c .before .before .before .before .before .before .before .before .if1 .left)) in
+    let a = c .before .before .before .before .before .before .before .before .before .before .before .before .before
+        .before .before .before .before .before .before .before .args in
+    let o = c .before .before .before .before .before .before .before .before .before .before .before .set-options
+        .ensures .yes (not-false _ (c .before .before .before .before .before .before .before .before .if1 .left)) in
     let e = c .before .before .before .before .try-options .ensures in
     (e .2, better-takes (a .starts .now) (a .table .now) (a .columns) (a .a) (a .b) _ _ o (e .3))
 

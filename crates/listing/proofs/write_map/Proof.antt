@@ -102,7 +102,8 @@ write-refusal-requires c κs =
     let a = s .args in
     let p = q .plan-by .ensures in
     let r = c .before .before .r .given .1 in
-    rw (map-refused (a .planner) (a .head) (now (a .grid)) (q .plan-by .result) (s .pre .0) (p .0) (p .1) r) at (s .pre .2)
+    rw (map-refused (a .planner) (a .head) (now (a .grid)) (q .plan-by .result) (s .pre .0) (p .0) (p .1) r) at (s
+        .pre .2)
 
 same-length : tie.Need-same-length
 same-length c = search needs
