@@ -57,7 +57,7 @@ furthest goes far (suc n) =
       passes = f .passes;
       most = λ j h g.
           by-lt j n (λ b. f .most j b g) (λ b. let e : j ≡ n = omega arith in absurd (true≢false (sym (rw e at g) ∙
-              t)));
+          t)));
     }))
     (furthest goes far n))
   where
@@ -206,15 +206,15 @@ module _ (count : ℕ) (starts : ℕ → ℕ) (Us Vs : ℕ → ℕ) (first : Us 
       by-way s d e east =
           and-both (ltb (Us pa) (u k) || ltb (Vs pa) (v k)) (ltb (u k) (Us pb) || ltb (Vs pb) (v k))
           (less-or (Us pa) (u k) (Vs pa) (v k) (λ g. clear-of-north (λ x y. u k ≤ x → v k ≤ y → ⊥) (λ f h i. cross
-              .north-east f k h l i e) g g))
+          .north-east f k h l i e) g g))
           (less-or (u k) (Us pb) (Vs pb) (v k) (λ g. clear-of-south (λ x y. x ≤ u k → v k ≤ y → ⊥) (λ f h i. cross
-              .south-east f k h l i e) g g))
+          .south-east f k h l i e) g g))
       by-way s d e west =
           and-both (ltb (Us pa) (u k) || ltb (v k) (Vs pa)) (ltb (u k) (Us pb) || ltb (v k) (Vs pb))
           (less-or (Us pa) (u k) (v k) (Vs pa) (λ g. clear-of-north (λ x y. u k ≤ x → y ≤ v k → ⊥) (λ f h i. cross
-              .north-west f k h l i e) g g))
+          .north-west f k h l i e) g g))
           (less-or (u k) (Us pb) (v k) (Vs pb) (λ g. clear-of-south (λ x y. x ≤ u k → y ≤ v k → ⊥) (λ f h i. cross
-              .south-west f k h l i e) g g))
+          .south-west f k h l i e) g g))
 
       leaves-it : Sided → Way (q k) → fits (Us pa) (Vs pa) (Us pb) (Vs pb) (u k) (v k) (q k) ≡ true
       leaves-it s w = by-way s (q k) refl w
@@ -229,7 +229,7 @@ module _ (count : ℕ) (starts : ℕ → ℕ) (Us Vs : ℕ → ℕ) (first : Us 
 -- The numbers of a pinwheel: paths north from (un, vn), south from (us, vs), west from (uw, vw) and east from (ue, ve).
 module _ (un vn us vs uw vw ue ve : ℕ) (rows : us ≤ un) (columns : ve ≤ vw)
     (nw : uw ≤ un → vn ≤ vw → ⊥) (ne : ue ≤ un → ve ≤ vn → ⊥) (sw : us ≤ uw → vs ≤ vw → ⊥) (se : us ≤ ue → ve ≤ vs →
-        ⊥) where
+    ⊥) where
   one-way : vn < vs → ((un < uw) × (vn < vw)) × ((ue < us) × (ve < vs))
   one-way h =
       by-lt un ue
@@ -305,7 +305,7 @@ module _ (count : ℕ) (starts q : ℕ → ℕ) (straight : (k : ℕ) → k < co
   module _ (n s w e : ℕ)
       (ln : Lowest count starts row column refl refl rows q n) (hs : Highest count starts row column refl refl rows q s)
       (lw : Lowest count starts column row refl refl columns q′ w) (he : Highest count starts column row refl refl
-          columns q′ e) where
+      columns q′ e) where
     abbrev pn : ℕ
     pn = end-of count starts 0 n
 

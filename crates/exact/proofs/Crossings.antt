@@ -30,8 +30,11 @@ clears-comm starts i d j e = clear-comm 30 30 (at starts i) d (at starts j) e
 pub inner-largest : (n m p : ℕ) → n ≤ 30 → m ≤ 30 → inner n m p ≡ true → inner 30 30 p ≡ true
 inner-largest n m p a b h =
     let i = inner-holds n m p h in
-    inner-between 30 30 (row p) (column p) (i .row-low) (omega (arith, i .row-high)) (i .column-low) (omega (arith, i
-        .column-high))
+    inner-between 30 30 (row p) (column p) (i .row-low) (omega (arith, i .row-high)) (i .column-low) (omega (
+      arith,
+      i
+          .column-high,
+    ))
 
 -- a fault's start, with a direction
 pub start-at : {n m : ℕ} {starts : List ℕ} → Placed n m starts → (k p d : ℕ) → k < length starts → p ≡ at starts k →
@@ -49,13 +52,13 @@ pub entry-passes : {clashes starts : List ℕ} → Sited clashes starts → (f d
     length starts
     → (f ≡ g → ⊥) → 1 ≤ d → d ≤ 4 → 1 ≤ e → e ≤ 4
     → byte ≡ byte-of (entry d e (class (row (at starts f)) (row (at starts g))) (class (column (at starts f)) (column
-        (at starts g))))
+    (at starts g))))
     → eqb byte 0 ≡ clears-on starts f d g e
 unfolding clear
 entry-passes {clashes} {starts} t f d g e byte h l ne d1 d4 e1 e4 is =
     ap (λ (b : ℕ). eqb b 0) is
     ∙ byte-clear (entry d e (class (row (at starts f)) (row (at starts g))) (class (column (at starts f)) (column (at
-        starts g))))
+    starts g))))
     ∙ ap is-clear
     (entry-is-clash 30 30 (at starts f) d (at starts g) e (site-at t f d h d1 d4) (site-at t g e l e1 e4)
     (ascending-distinct starts (t .ascend) f g ne h l))
@@ -80,7 +83,7 @@ clear-largest n m p d q e s t ne =
 module _ (n m : ℕ) (hn : n ≤ 30) (hm : m ≤ 30) where
   pub crossed : (p d q e : ℕ) → Way d → Way e → Inner n m p → Inner n m q → clear n m p d q e ≡ true
       → top p d ≤ bottom n q e → top q e ≤ bottom n p d → west-end p d ≤ east-end m q e → west-end q e ≤ east-end m p
-          d → ⊥
+      d → ⊥
   unfolding overlap
   crossed p d q e w w′ i j c h1 h2 h3 h4 =
       let o : overlap n m p d q e ≡ true = rw (

@@ -40,8 +40,13 @@ use Rattle.exact.proofs.Spares.{no-more, spare, spare-below, spares-dif
 pub after-later : (xs ys : List ℕ) → length xs ≡ length ys → Not-after xs ys → Not-later (length xs) (at xs) (at ys)
 after-later [] ys h n = inl (λ j l. absurd (not-suc-le-zero l))
 after-later (x ∷ xs) [] h n = absurd n
-after-later (x ∷ xs) (y ∷ ys) h (inl l) = inr (record { i = 0; below = omega arith; before = λ j m. absurd
-    (not-suc-le-zero m); more = l })
+after-later (x ∷ xs) (y ∷ ys) h (inl l) = inr (record {
+  i = 0;
+  below = omega arith;
+  before = λ j m. absurd
+      (not-suc-le-zero m);
+  more = l;
+})
 after-later (x ∷ xs) (y ∷ ys) h (inr (e, n)) = on (after-later xs ys (omega (arith, h)) n)
   where
     first : {k : ℕ} → ((j : ℕ) → j < k → at ys j ≡ at xs j) → (j : ℕ) → j < suc k → at (y ∷ ys) j ≡ at (x ∷ xs) j
@@ -50,8 +55,13 @@ after-later (x ∷ xs) (y ∷ ys) h (inr (e, n)) = on (after-later xs ys (omega 
 
     on : Not-later (length xs) (at xs) (at ys) → Not-later (suc (length xs)) (at (x ∷ xs)) (at (y ∷ ys))
     on (inl f) = inl (first f)
-    on (inr w) = inr (record { i = suc (w .i); below = omega (arith, w .below); before = first (w .before); more = w
-        .more })
+    on (inr w) = inr (record {
+      i = suc (w .i);
+      below = omega (arith, w .below);
+      before = first (w .before);
+      more = w
+          .more;
+    })
 
 -- neither of two is later: they are the same
 pub never-later : {count : ℕ} {a b : ℕ → ℕ} → Not-later count a b → Not-later count b a → (j : ℕ) → j < count → b j ≡
@@ -107,7 +117,7 @@ module _ (n m : ℕ) (grid : List ℕ) where
         = λ i j l h.
         sym
         (same-clear i j (at xs i) (at xs j) (omega arith) h (λ e. omega arith) (ways xs p i (omega arith)) (ways xs p
-            j h))
+        j h))
         ∙ plan-clear xs p i j l h in
         record {
           straight = ways xs p;
@@ -147,7 +157,7 @@ module _ (n m : ℕ) (grid : List ℕ) where
               let b : k < length fs = omega arith in
               let s = f .straight k b in
               ap (is-open n m grid (at fs k)) (same k b) ∙ sym (tabled k (at best k) b (s .0) (s .1)) ∙ f .open-path
-                  k b;
+              k b;
           no-meeting = λ i j h l. far i j h (omega arith) .0;
           no-near-miss = λ i j h l. far i j h (omega arith) .1;
         }
@@ -200,7 +210,7 @@ module _ (n m : ℕ) (grid : List ℕ) where
           let wide : length xs ≡ length fs = f .is-plan .one-path .one-each in
           let l : Not-later (length fs) (at xs) (at front)
           = subst (λ (k : ℕ). Not-later k (at xs) (at front)) wide (after-later xs front (wide ∙ sym many) (f
-              .none-before front p)) in
+          .none-before front p)) in
           let g : Not-later (length fs) (at front) (at xs) = front-not-later b₂ (at xs) (b .1) in
           (b .0, ext-getD 0 front xs (many ∙ sym wide) (λ j k. never-later l g j (omega arith)))
         where

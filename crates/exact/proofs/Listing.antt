@@ -58,16 +58,22 @@ offers-listed {columns} {a} {b} {starts} {table} {lo} {hi} o = listed-less less
         let h = o .held in
         let r = h .ordered k l in
         let t = h .high k l in
-        subst (Alone table k) (sym e)
-        (h .low k l, omega arith, and-true (alone-in table k (at lo k)) (leaves columns a b (at starts k) (at lo k))
-            (o .low-offered k l) .0)
+        subst (Alone table k) (sym e) (
+          h .low k l,
+          omega arith,
+          and-true (alone-in table k (at lo k)) (leaves columns a b (at starts k) (at lo k))
+              (o .low-offered k l) .0,
+        )
     less k x l (inr e) =
         let h = o .held in
         let r = h .ordered k l in
         let t = h .low k l in
-        subst (Alone table k) (sym e)
-        (omega arith, h .high k l, and-true (alone-in table k (at hi k)) (leaves columns a b (at starts k) (at hi k))
-            (o .high-offered k l) .0)
+        subst (Alone table k) (sym e) (
+          omega arith,
+          h .high k l,
+          and-true (alone-in table k (at hi k)) (leaves columns a b (at starts k) (at hi k))
+              (o .high-offered k l) .0,
+        )
 
 -- Two faults, by all their directions: number j is direction j / 4 + 1 of the first and j % 4 + 1 of the second.
 module _ (starts table : List ℕ) (f g : ℕ) where
@@ -93,7 +99,7 @@ module _ (starts table : List ℕ) (f g : ℕ) where
       let ex : j / 4 + 1 ≡ x = omega arith in
       let ey : j % 4 + 1 ≡ y = omega arith in
       subst (λ (e : ℕ). Clear-at x e) ey (subst (λ (d : ℕ). Clear-at d (j % 4 + 1)) ex (s .clear j (omega arith))) (p
-          .2) (q .2)
+      .2) (q .2)
 
 -- a row whose places are as they were
 row-still : {count : ℕ} {clears : ℕ → ℕ → ℕ → ℕ → Bool} {may : ℕ → ℕ → Type 0} {lists lists′ : List ℕ}

@@ -126,14 +126,14 @@ module _ (columns : Bool) (a b : ℕ) (starts table : List ℕ) where
     few k d e g l m o h x y z =
         two-options columns a b (at starts k) d e g t l m o h
         (and-true (alone-in table k d) _ x .1) (and-true (alone-in table k e) _ y .1) (and-true (alone-in table k g)
-            _ z .1)
+        _ z .1)
 
     module _ {k : ℕ} {lo hi : List ℕ} (v : Offering k lo hi) (l : k < length starts) {p : ℕ} (here : p ≡ at starts k)
         {s n e w : Bool}
         (fs : s ≡ (alone-in table k 1 && leaves columns a b p 1)) (fn : n ≡ (alone-in table k 2 && leaves columns a b
-            p 2))
+        p 2))
         (fe : e ≡ (alone-in table k 3 && leaves columns a b p 3)) (fw : w ≡ (alone-in table k 4 && leaves columns a b
-            p 4)) where
+        p 4)) where
       abbrev f : ℕ → Bool
       f d = offered columns a b starts table k d
 
@@ -183,8 +183,14 @@ module _ (columns : Bool) (a b : ℕ) (starts table : List ℕ) where
                 by-eq j k
                 (λ (z : j ≡ k).
                 rw z
-                (rw (getD-set-same lo k x 0 (omega (arith, v .low-long)), getD-set-same hi k y 0 (omega (arith, v
-                    .high-long))) o))
+                (rw (
+                  getD-set-same lo k x 0 (omega (arith, v .low-long)),
+                  getD-set-same hi k y 0 (omega (
+                    arith,
+                    v
+                        .high-long,
+                  )),
+                ) o))
                 (λ z. rw (getD-set-other lo k j x 0 z, getD-set-other hi k j y 0 z) (v .each j (omega arith)));
           }
 

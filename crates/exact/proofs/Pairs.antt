@@ -41,8 +41,11 @@ nowhere-less (suc n) a b h = on (nowhere-less n a b (λ k l. h k (omega arith)))
     on (inr w) = inr (record { i = w .i; below = omega (arith, w .below); before = w .before; more = w .more })
     on (inl e) =
         by-lt (a n) (b n) (λ l. inr (record { i = n; below = omega arith; before = e; more = l }))
-        (λ l. inl (λ j m. by-lt j n (λ c. e j c) (λ c. let z : j ≡ n = omega arith in rw z (omega (arith, h n (omega
-            arith))))))
+        (λ l. inl (λ j m. by-lt j n (λ c. e j c) (λ c. let z : j ≡ n = omega arith in rw z (omega (
+          arith,
+          h n (omega
+              arith),
+        )))))
 
 -- no solution of options comes before the least of them
 pub least-first : (starts lo hi : List ℕ) → Held (length starts) lo hi → (q : ℕ → ℕ)
@@ -62,7 +65,7 @@ module _ (starts lo hi : List ℕ) (have : Bool) (best : List ℕ) where
   -- the best so far is not later than what no solution comes before
   pub takes-old : (val : List ℕ) (before : Bool)
       → ((q : ℕ → ℕ) → Solution (length starts) (clears-on starts) (at lo) (at hi) q → Not-later (length starts) (at
-          val) q)
+      val) q)
       → (have && not before) ≡ true → (before ≡ false → Not-later (length starts) (at best) (at val))
       → Takes starts lo hi have best true best
   takes-old val before least h otherwise =
@@ -81,7 +84,7 @@ module _ (starts lo hi : List ℕ) (have : Bool) (best : List ℕ) where
   pub takes-new : (val : List ℕ) (before : Bool)
       → First-solution (length starts) (clears-on starts) (at lo) (at hi) (at val)
       → (have && not before) ≡ false → (before ≡ true → Later (length starts) (at val) (at best)) → (new : List ℕ) →
-          new ≡ val
+      new ≡ val
       → Takes starts lo hi have best true new
   takes-new val before first h then new e =
       subst (λ (l : List ℕ). Takes starts lo hi have best true l) (sym e)
@@ -150,13 +153,15 @@ module _ (starts table : List ℕ) where
                 let x = o .held .low k l in
                 let y = o .held .ordered k l in
                 let z = o .held .high k l in
-                ⊎-elim (λ (e : q k ≡ at lo k). (omega arith, omega arith)) (λ (e : q k ≡ at hi k). (omega arith,
-                    omega arith))
+                ⊎-elim (λ (e : q k ≡ at lo k). (omega arith, omega arith)) (λ (e : q k ≡ at hi k). (
+                  omega arith,
+                  omega arith,
+                ))
                 (s .within k l);
             open-path = λ k l.
                 ⊎-elim (λ (e : q k ≡ at lo k). ap (alone-in table k) e ∙ alone-of k (at lo k) (o .low-offered k l))
                 (λ (e : q k ≡ at hi k). ap (alone-in table k) e ∙ alone-of k (at hi k) (o .high-offered k l)) (s
-                    .within k l);
+                .within k l);
             apart = s .apart;
           }
 

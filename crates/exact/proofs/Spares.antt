@@ -30,8 +30,12 @@ skip-rises k i j l =
     by-lt j k
     (λ h. omega (arith, skip-low k i (omega arith), skip-low k j h))
     (λ h.
-    by-lt i k (λ g. omega (arith, skip-low k i g, skip-high k j h)) (λ g. omega (arith, skip-high k i g, skip-high k
-        j h)))
+    by-lt i k (λ g. omega (arith, skip-low k i g, skip-high k j h)) (λ g. omega (
+      arith,
+      skip-high k i g,
+      skip-high k
+          j h,
+    )))
 
 skip-not : (k j : ℕ) → skip k j ≡ k → ⊥
 skip-not k j e = by-lt j k (λ h. omega (arith, skip-low k j h)) (λ h. omega (arith, skip-high k j h))

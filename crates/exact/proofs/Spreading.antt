@@ -76,7 +76,7 @@ module _ (count : ℕ) (clears : ℕ → ℕ → ℕ → ℕ → Bool) where
       marked = λ j b ne.
           by-eq j f (λ e. subst (Closed-at count clears (at lo″) (at hi″)) (sym e) (t .closed))
           (λ o. closed-still count clears (t .narrowed) j b (s .marked j b (λ e. ne (getD-set-other done f j 1 0 o ∙
-              e))));
+          e))));
       next = n;
     }
 
@@ -247,10 +247,10 @@ module _ (count : ℕ) (clears : ℕ → ℕ → ℕ → ℕ → Bool) where
 
       pub solve-next : {lo″ hi″ done″ : List ℕ} → k < count → length done″ ≡ 128
           → Held count lo″ hi″ → Settled count clears k (at lo′) (at hi′) (at lo″) (at hi″) (at done″) → Solving lo
-              hi (k + 1) lo″ hi″ done″
+          hi (k + 1) lo″ hi″ done″
       solve-next {lo″} {hi″} l d h t =
           let same : (j : ℕ) → j < k → at lo″ j ≡ at lo′ j = λ j b. stays (t .narrowed) j (omega arith) (s .ones j b)
-              .0 in
+          .0 in
           record {
             within = omega arith;
             done-long = d;
@@ -380,14 +380,14 @@ module _ {clashes starts lists ends rest lo hi done : List ℕ} (k : ℕ)
 
     pub up-judged : {r : Bool} {lo′ hi′ done′ : ℕ → ℕ}
         → Judged r (Spread faults clear (at (set lo₁ k (at hi₁ k))) (at hi₁) lo′ hi′ done′) (No-solution faults clear
-            (at (set lo₁ k (at hi₁ k))) (at hi₁))
+        (at (set lo₁ k (at hi₁ k))) (at hi₁))
         → Judged r (Settled faults clear k (at lo) (at hi) lo′ hi′ done′) (No-solution faults clear (at lo) (at hi))
     up-judged {r} {lo′} {hi′} {done′} j =
         let i =
         subst (λ (h : List ℕ). Judged r (Spread faults clear (at (set lo k (at h k))) (at h) lo′ hi′ done′)
-            (No-solution faults clear (at (set lo k (at h k))) (at h))) (u .same-high)
+        (No-solution faults clear (at (set lo k (at h k))) (at h))) (u .same-high)
         (subst (λ (l : List ℕ). Judged r (Spread faults clear (at (set l k (at hi₁ k))) (at hi₁) lo′ hi′ done′)
-            (No-solution faults clear (at (set l k (at hi₁ k))) (at hi₁))) (u .same-low) j) in
+        (No-solution faults clear (at (set l k (at hi₁ k))) (at hi₁))) (u .same-low) j) in
         record {
           yes = λ e. settled-up faults clear lo hi (s .held) k below (u .not-low) (i .yes e);
           no = λ e. none-up faults clear lo hi (s .held) k below (u .not-low) (i .no e);
@@ -396,7 +396,7 @@ module _ {clashes starts lists ends rest lo hi done : List ℕ} (k : ℕ)
 -- copied back
 pub settled-copied : {count : ℕ} {clears : ℕ → ℕ → ℕ → ℕ → Bool} {k : ℕ} {lo hi : ℕ → ℕ} {lo′ hi′ done′ x y z : List ℕ}
     → x ≡ lo′ → y ≡ hi′ → z ≡ done′ → Settled count clears k lo hi (at lo′) (at hi′) (at done′) → Settled count
-        clears k lo hi (at x) (at y) (at z)
+    clears k lo hi (at x) (at y) (at z)
 settled-copied ex ey ez s = rw (ex, ey, ez) s
 
 -- nothing marked

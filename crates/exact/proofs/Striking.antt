@@ -68,9 +68,9 @@ module _ (starts lo hi : List ℕ) (f d g : ℕ) where
   one-struck {a} ea one =
       let b : a ≡ clears-on starts f d g (at hi g) = ea ∙ ap (clears-on starts f d g) one in
       let same : cond (clears-on starts f d g (at lo g)) (at lo g) (at hi g) ≡ at lo g = one-of (clears-on starts f d
-          g (at lo g)) (sym one) in
+      g (at lo g)) (sym one) in
       let same-too : cond (clears-on starts f d g (at hi g)) (at hi g) (at lo g) ≡ at hi g = one-of (clears-on starts
-          f d g (at hi g)) one in (
+      f d g (at hi g)) one in (
         or-same a ∙ (λ i. ea i || b i),
         record {
           yes = λ e. (sym (ap (set lo g) same ∙ set-getD lo g 0), sym (ap (set hi g) same-too ∙ set-getD hi g 0));
@@ -80,8 +80,14 @@ module _ (starts lo hi : List ℕ) (f d g : ℕ) where
 
   pub none-struck : {a b : Bool} → a ≡ clears-on starts f d g (at lo g) → b ≡ clears-on starts f d g (at hi g)
       → not (a || b) ≡ true → Strikes-one starts lo hi f d g false lo hi
-  none-struck {a} {b} ea eb h = (sym (not-true (a || b) h) ∙ (λ i. ea i || eb i), record { yes = λ e. absurd
-      (false≢true e); no = λ e. (refl, refl) })
+  none-struck {a} {b} ea eb h = (
+    sym (not-true (a || b) h) ∙ (λ i. ea i || eb i),
+    record {
+      yes = λ e. absurd
+          (false≢true e);
+      no = λ e. (refl, refl);
+    },
+  )
 
   pub two-struck : {a b : Bool} {x y : ℕ} → a ≡ clears-on starts f d g (at lo g) → b ≡ clears-on starts f d g (at hi g)
       → (a || b) ≡ true → x ≡ cond a (at lo g) (at hi g) → y ≡ cond b (at hi g) (at lo g)
@@ -158,8 +164,12 @@ module _ (count : ℕ) (clears : ℕ → ℕ → ℕ → ℕ → Bool) (lo hi : 
       low-here = getD-set-same lo′ g (cond a (at lo′ g) (at hi′ g)) 0 (omega (arith, s .held .low-long, s .held .room))
 
       high-here : at hi″ g ≡ cond b (at hi′ g) (at lo′ g)
-      high-here = getD-set-same hi′ g (cond b (at hi′ g) (at lo′ g)) 0 (omega (arith, s .held .high-long, s .held
-          .room))
+      high-here = getD-set-same hi′ g (cond b (at hi′ g) (at lo′ g)) 0 (omega (
+        arith,
+        s .held .high-long,
+        s .held
+            .room,
+      ))
 
       low-there : (k : ℕ) → (k ≡ g → ⊥) → at lo″ k ≡ at lo′ k
       low-there k o = getD-set-other lo′ g k (cond a (at lo′ g) (at hi′ g)) 0 o
@@ -175,8 +185,11 @@ module _ (count : ℕ) (clears : ℕ → ℕ → ℕ → ℕ → Bool) (lo hi : 
               (λ (e : k ≡ g).
               rw e
               (⊎-elim (λ x. inl (low-here ∙ x .0, high-here ∙ x .1))
-              (λ x. inr (low-here ∙ x .0 ∙ sym high-here, ⊎-elim (λ y. inl (low-here ∙ y)) (λ y. inr (low-here ∙ y))
-                  (x .1)))
+              (λ x. inr (
+                low-here ∙ x .0 ∙ sym high-here,
+                ⊎-elim (λ y. inl (low-here ∙ y)) (λ y. inr (low-here ∙ y))
+                    (x .1),
+              ))
               (pick-first a b (at lo′ g) (at hi′ g) h)))
               (λ o. inl (low-there k o, high-there k o));
         }

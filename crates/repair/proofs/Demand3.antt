@@ -363,8 +363,12 @@ module _ (g : Given) (good : Good g) where
       after-found (repaired-as (g .planner) (g .limit) (g .n) (g .m) (g .grid) (ap is-repaired (sym answer-as) ∙ e))
 
   whole-run : Demand3 g
-  whole-run = record { under-limit = limited; without-limit = λ c. unlimited (uncounted-exact (g .planner) c); after
-      = after-repaired }
+  whole-run = record {
+    under-limit = limited;
+    without-limit = λ c. unlimited (uncounted-exact (g .planner) c);
+    after
+        = after-repaired;
+  }
 
 pub demand-3 : Demand-3
 demand-3 g good = whole-run g good
@@ -422,16 +426,16 @@ exact-agrees g h x y same t e un =
     let grid = g .grid in
     let s = planned n m grid in
     let first : answer g ≡ Planned (outcome (g .limit) s) = answer-as g x ∙ ap (λ (pl : Planner). answer-by pl (g
-        .limit) (planned-by pl n m grid)) t in
+    .limit) (planned-by pl n m grid)) t in
     let left : planned-directions g ≡ directions-written (g .limit) [] (faults n m grid) s
     = directions-are g x ∙ ap (λ (pl : Planner). buffer-by pl (g .limit) (kept-by pl n m grid) (left-by pl n m grid)
-        (planned-by pl n m grid)) t in
+    (planned-by pl n m grid)) t in
     let second : answer h ≡ Decided (decided s)
     = rw (same .rows, same .columns, same .marks) (answer-as h y ∙ ap (λ (pl : Planner). answer-by pl (h .limit)
-        (planned-by pl (h .n) (h .m) (h .grid))) e) in
+    (planned-by pl (h .n) (h .m) (h .grid))) e) in
     let found : planned-directions h ≡ directions-found (faults n m grid) s
     = rw (same .rows, same .columns, same .marks) (directions-are h y
     ∙ ap (λ (pl : Planner). buffer-by pl (h .limit) (kept-by pl (h .n) (h .m) (h .grid)) (left-by pl (h .n) (h .m) (h
-        .grid)) (planned-by pl (h .n) (h .m) (h .grid))) e) in
+    .grid)) (planned-by pl (h .n) (h .m) (h .grid))) e) in
     let a = agreeing (g .limit) (faults n m grid) s (λ z. un (first ∙ ap Planned z)) in
     (ap is-repaired second ∙ a .0 ∙ sym (ap is-repaired first), found ∙ a .1 ∙ sym left)

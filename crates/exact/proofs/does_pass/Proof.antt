@@ -53,7 +53,7 @@ returns c =
     let s = c .before .before .before .before in
     let p = s .pre in
     entry-passes (p .0) (s .args .f) (s .args .d) (s .args .g) (s .args .e) _ (p .1) (p .2) (p .3) (p .4) (p .5) (p
-        .6) (p .7)
+    .6) (p .7)
     (c .find-entry .ensures)
 
 pub does-pass-spec : {M : Type 1} → statement M

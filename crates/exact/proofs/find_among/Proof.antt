@@ -29,7 +29,7 @@ returns c =
     let s = c .before .before .before .before .before .before .before .before in
     let a = s .args in
     let e = too-many (a .n) (a .m) (a .grid .now) (a .starts .now) (s .pre .4) (s .pre .0) (s .pre .1) (c .before
-        .before .before .before .if1 .taken) in
+    .before .before .before .if1 .taken) in
     (e .0, c .before .before .wipe .ensures ∙ e .1)
 
 slice-aggregate-find-best : tie.Need-slice-aggregate-find-best
@@ -39,9 +39,12 @@ find-best-requires : tie.Need-find-best-requires
 find-best-requires c κs =
     let s = c .before .before .before .before .before in
     let a = s .args in
-    let few : length (a .starts .now) ≤ 128 = omega (arith, s .pre .0, s .pre .1, c .before .if1 .left) in
-    (faults-placed (a .n) (a .m) (a .grid .now) (a .starts .now) (s .pre .4) (s .pre .0) (s .pre .1) few, s .pre .2,
-        search needs, s .pre .4)
+    let few : length (a .starts .now) ≤ 128 = omega (arith, s .pre .0, s .pre .1, c .before .if1 .left) in (
+      faults-placed (a .n) (a .m) (a .grid .now) (a .starts .now) (s .pre .4) (s .pre .0) (s .pre .1) few,
+      s .pre .2,
+      search needs,
+      s .pre .4,
+    )
 
 array-share-prefix-best : tie.Need-array-share-prefix-best
 array-share-prefix-best c = search needs
@@ -49,18 +52,28 @@ array-share-prefix-best c = search needs
 slice-aggregate-write-best : tie.Need-slice-aggregate-write-best
 slice-aggregate-write-best c =
     let s = c .before .before .before .before .before .before .before .before in
-    let few : length (s .args .starts .now) ≤ 128 = omega (arith, s .pre .0, s .pre .1, c .before .before .before
-        .before .if1 .left) in
+    let few : length (s .args .starts .now) ≤ 128 = omega (
+      arith,
+      s .pre .0,
+      s .pre .1,
+      c .before .before .before
+          .before .if1 .left,
+    ) in
     sym (length-take-le _ _ (omega (arith, few, c .before .before .find-best .kept .1 .1 .1 .1 .0)))
 
 write-best-requires : tie.Need-write-best-requires
 write-best-requires c κs =
     let s = c .before .before .before .before .before .before .before .before .before in
     let a = s .args in
-    let few : length (a .starts .now) ≤ 128 = omega (arith, s .pre .0, s .pre .1, c .before .before .before .before
-        .before .if1 .left) in
+    let few : length (a .starts .now) ≤ 128 = omega (
+      arith,
+      s .pre .0,
+      s .pre .1,
+      c .before .before .before .before
+          .before .if1 .left,
+    ) in
     let e = length-take-le (length (a .starts .now)) (c .before .before .before .find-best .last .1 .1 .1 .1 .0)
-        (omega (arith, few, c .before .before .before .find-best .kept .1 .1 .1 .1 .0)) in (
+    (omega (arith, few, c .before .before .before .find-best .kept .1 .1 .1 .1 .0)) in (
       s .pre .3,
       omega (arith, e),
       subst (λ (l : List ℕ). (i : ℕ) → i < length l → getD l i 0 < 1024) (sym (s .pre .4)) (fault-below (a .n) (a .m)
@@ -74,9 +87,11 @@ returns-2 : tie.Need-returns-2
 returns-2 c =
     let s = c .before .before .before .before .before .before .before .before .before .before .before .before in
     let a = s .args in
-    let e = c .before .before .before .before .before .before .find-best .ensures in
-    (e .0, found-written (a .n) (a .m) (a .grid .now) (a .starts .now) _ _ _ (s .pre .4) (e .0) (e .1) (c .before
-        .before .write-best .ensures))
+    let e = c .before .before .before .before .before .before .find-best .ensures in (
+      e .0,
+      found-written (a .n) (a .m) (a .grid .now) (a .starts .now) _ _ _ (s .pre .4) (e .0) (e .1) (c .before
+          .before .write-best .ensures),
+    )
 
 pub find-among-spec : {M : Type 1} → statement M
 find-among-spec =

@@ -25,7 +25,7 @@ returns c =
     let s = c .before .before .before .before .before .before .before .before .before in
     let a = s .args in
     stuck-found (a .n) (a .m) (a .grid .now) (a .starts .now) _ (s .pre .3) (s .pre .0) (c .before .before .before
-        .before .list-open .ensures .1)
+    .before .list-open .ensures .1)
     (c .before .have-paths .ensures .no (not-true _ (c .if1 .taken))) _
 
 clash-table-requires : tie.Need-clash-table-requires
@@ -46,9 +46,15 @@ slice-aggregate-list-rows-4 c = search needs
 list-rows-requires : tie.Need-list-rows-requires
 list-rows-requires c κs =
     let s = c .before .before .before .before .before .before .before .before .before .before .before .before .before
-        .before .before in
-    (placed-sited (s .pre .0) (c .before .before .before .before .before .clash-table .ensures .0), c .before .before
-        .before .before .before .before .before .before .before .before .list-open .ensures .0, refl, refl, refl, refl)
+    .before .before in (
+      placed-sited (s .pre .0) (c .before .before .before .before .before .clash-table .ensures .0),
+      c .before .before
+          .before .before .before .before .before .before .before .before .list-open .ensures .0,
+      refl,
+      refl,
+      refl,
+      refl,
+    )
 
 slice-aggregate-try-pairs : tie.Need-slice-aggregate-try-pairs
 slice-aggregate-try-pairs c = search needs
@@ -65,7 +71,7 @@ slice-aggregate-try-pairs-4 c = search needs
 try-pairs-requires : tie.Need-try-pairs-requires
 try-pairs-requires c κs =
     let s = c .before .before .before .before .before .before .before .before .before .before .before .before .before
-        .before .before .before .before .before .before .before .before .before .before .before .before in
+    .before .before .before .before .before .before .before .before .before .before .before .before in
     record {
       sited = placed-sited (s .pre .0) (c .before .before .before .before .before .before .before .before .before
           .before .before .before .before .before .before .clash-table .ensures .0);
@@ -90,8 +96,8 @@ slice-aggregate-try-pairs-8 c = search needs
 try-pairs-requires-2 : tie.Need-try-pairs-requires-2
 try-pairs-requires-2 c κs =
     let s = c .before .before .before .before .before .before .before .before .before .before .before .before .before
-        .before .before .before .before .before .before .before .before .before .before .before .before .before
-        .before .before .before .before .before .before .before .before in
+    .before .before .before .before .before .before .before .before .before .before .before .before .before
+    .before .before .before .before .before .before .before .before in
     record {
       sited = placed-sited (s .pre .0) (c .before .before .before .before .before .before .before .before .before
           .before .before .before .before .before .before .before .before .before .before .before .before .before
@@ -110,16 +116,16 @@ same-length c = search needs
 returns-2 : tie.Need-returns-2
 returns-2 c =
     let s = c .before .before .before .before .before .before .before .before .before .before .before .before .before
-        .before .before .before .before .before .before .before .before .before .before .before .before .before
-        .before .before .before .before .before .before .before .before .before .before .before in
+    .before .before .before .before .before .before .before .before .before .before .before .before .before
+    .before .before .before .before .before .before .before .before .before .before .before in
     let a = s .args in
     let e = c .before .before .try-pairs2 .ensures in
     best-of (a .n) (a .m) (a .grid .now) (a .starts .now) _ (s .pre .3) (s .pre .0) (c .before .before .before
-        .before .before .before .before .before .before .before .before .before .before .before .before .before
-        .before .before .before .before .before .before .before .before .before .before .before .before .before
-        .before .before .before .list-open .ensures .1)
+    .before .before .before .before .before .before .before .before .before .before .before .before .before
+    .before .before .before .before .before .before .before .before .before .before .before .before .before
+    .before .before .before .list-open .ensures .1)
     (omega (arith, s .pre .0 .short, e .0)) (c .before .before .before .before .before .before .before .before
-        .before .before .before .try-pairs .ensures .1) (e .1)
+    .before .before .before .try-pairs .ensures .1) (e .1)
 
 pub find-best-spec : {M : Type 1} → statement M
 find-best-spec =

@@ -27,7 +27,7 @@ shared-slice-read-if1-3 c = omega arith
 returns : tie.Need-returns Inv-loop μ-loop
 returns c =
     let a = c .before .before .before .before .before .before .args in next-here (a .from) (a .count) (a .lo .now) (a
-        .hi .now) (a .done .now)
+    .hi .now) (a .done .now)
     (c .before .before .before .before .before .loop .k) (omega arith) (c .if1 .taken)
 
 add-k : tie.Need-add-k Inv-loop μ-loop
@@ -39,15 +39,15 @@ loop-less c = omega arith
 loop-again : tie.Need-loop-again Inv-loop μ-loop
 loop-again c =
     let a = c .before .before .before .before .before .before .args in next-past (a .from) (a .count) (a .lo .now) (a
-        .hi .now) (a .done .now)
+    .hi .now) (a .done .now)
     (c .before .before .before .before .before .loop .k) (c .before .before .before .before .before .loop .inv)
-        (omega arith)
+    (omega arith)
     (c .if1 .left)
 
 returns-2 : tie.Need-returns-2 Inv-loop μ-loop
 returns-2 c =
     let a = c .before .before .args in next-end (a .from) (a .count) (a .lo .now) (a .hi .now) (a .done .now) (c
-        .before .loop .k)
+    .before .loop .k)
     (c .before .loop .inv) (omega arith)
 
 pub find-from-spec : {M : Type 1} → statement M

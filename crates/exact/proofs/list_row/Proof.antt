@@ -20,12 +20,21 @@ abbrev μ-loop : tie.MeasureT-loop
 μ-loop clashes starts table lists₀ ends rest f end₀ g₀ lists end g = length starts - g
 
 mul-end : tie.Need-mul-end Inv-loop μ-loop
-mul-end c = omega (arith, c .before .before .before .before .before .pre .0 .few, c .before .before .before .before
-    .before .pre .2)
+mul-end c = omega (
+  arith,
+  c .before .before .before .before .before .pre .0 .few,
+  c .before .before .before .before
+      .before .pre .2,
+)
 
 slice-read-end : tie.Need-slice-read-end Inv-loop μ-loop
-slice-read-end c = omega (arith, c .before .before .before .before .before .before .pre .0 .few, c .before .before
-    .before .before .before .before .pre .2, c .before .before .before .before .before .before .pre .4)
+slice-read-end c = omega (
+  arith,
+  c .before .before .before .before .before .before .pre .0 .few,
+  c .before .before
+      .before .before .before .before .pre .2,
+  c .before .before .before .before .before .before .pre .4,
+)
 
 cast-end : tie.Need-cast-end Inv-loop μ-loop
 cast-end c = omega (arith, c .before .before .before .before .before .before .pre .6)
@@ -36,51 +45,55 @@ loop-holds c = row-start _ _ _ (c .before .before .before .before .before .befor
 
 may-clash-requires : tie.Need-may-clash-requires Inv-loop μ-loop
 may-clash-requires c κs =
-    let p = c .before .before .before .before .before .before .before .before .pre in
-    (p .0, p .2, both-below (c .before .loop .g) (length (c .before .before .before .before .before .before .before
-        .before .args .starts .now)) (c .before .loop .end) 2048 (c .loop-test .taken) .0, p .1)
+    let p = c .before .before .before .before .before .before .before .before .pre in (
+      p .0,
+      p .2,
+      both-below (c .before .loop .g) (length (c .before .before .before .before .before .before .before
+          .before .args .starts .now)) (c .before .loop .end) 2048 (c .loop-test .taken) .0,
+      p .1,
+    )
 
 cast-lists : tie.Need-cast-lists Inv-loop μ-loop
 cast-lists c =
     let b = both-below (c .before .before .before .loop .g) (length (c .before .before .before .before .before
-        .before .before .before .before .before .args .starts .now)) (c .before .before .before .loop .end) 2048 (c
-        .before .before .loop-test .taken) in
+    .before .before .before .before .before .args .starts .now)) (c .before .before .before .loop .end) 2048 (c
+    .before .before .loop-test .taken) in
     omega (arith, b .0, c .before .before .before .before .before .before .before .before .before .before .pre .0 .few)
 
 slice-write-lists : tie.Need-slice-write-lists Inv-loop μ-loop
 slice-write-lists c =
     let b = both-below (c .before .before .before .loop .g) (length (c .before .before .before .before .before
-        .before .before .before .before .before .args .starts .now)) (c .before .before .before .loop .end) 2048 (c
-        .before .before .loop-test .taken) in
+    .before .before .before .before .before .args .starts .now)) (c .before .before .before .loop .end) 2048 (c
+    .before .before .loop-test .taken) in
     omega (arith, b .1, c .before .before .before .loop .inv .long)
 
 add-end : tie.Need-add-end Inv-loop μ-loop
 add-end c =
     let b = both-below (c .before .before .before .loop .g) (length (c .before .before .before .before .before
-        .before .before .before .before .before .args .starts .now)) (c .before .before .before .loop .end) 2048 (c
-        .before .before .loop-test .taken) in
+    .before .before .before .before .before .args .starts .now)) (c .before .before .before .loop .end) 2048 (c
+    .before .before .loop-test .taken) in
     omega (arith, b .1)
 
 add-g : tie.Need-add-g Inv-loop μ-loop
 add-g c =
     let b = both-below (c .before .before .before .loop .g) (length (c .before .before .before .before .before
-        .before .before .before .before .before .args .starts .now)) (c .before .before .before .loop .end) 2048 (c
-        .before .before .loop-test .taken) in
+    .before .before .before .before .before .args .starts .now)) (c .before .before .before .loop .end) 2048 (c
+    .before .before .loop-test .taken) in
     omega (arith, b .0, c .before .before .before .before .before .before .before .before .before .before .pre .0 .few)
 
 loop-less : tie.Need-loop-less Inv-loop μ-loop
 loop-less c =
     let b = both-below (c .before .before .before .loop .g) (length (c .before .before .before .before .before
-        .before .before .before .before .before .args .starts .now)) (c .before .before .before .loop .end) 2048 (c
-        .before .before .loop-test .taken) in
+    .before .before .before .before .before .args .starts .now)) (c .before .before .before .loop .end) 2048 (c
+    .before .before .loop-test .taken) in
     omega (arith, b .0)
 
 loop-again : tie.Need-loop-again Inv-loop μ-loop
 loop-again c =
     let v = c .before .before .before .loop .inv in
     let b = both-below (c .before .before .before .loop .g) (length (c .before .before .before .before .before
-        .before .before .before .before .before .args .starts .now)) (c .before .before .before .loop .end) 2048 (c
-        .before .before .loop-test .taken) in
+    .before .before .before .before .before .args .starts .now)) (c .before .before .before .loop .end) 2048 (c
+    .before .before .loop-test .taken) in
     let e = c .before .may-clash .ensures in
     ⊎-elim (λ w. rw (w .1, w .2) (row-name _ _ _ v (b .0) (b .1) (e .yes (w .0 .taken))))
     (λ w. rw (w .1, w .2) (row-pass _ _ _ v (b .0) (e .no (w .0 .left)))) (c .if1 .came)
@@ -89,26 +102,48 @@ cast-ends : tie.Need-cast-ends Inv-loop μ-loop
 cast-ends c = omega (arith, c .before .loop .inv .row .others .fits)
 
 add-ends : tie.Need-add-ends Inv-loop μ-loop
-add-ends c = omega (arith, c .before .before .before .before .before .before .before .before .pre .0 .few, c .before
-    .before .before .before .before .before .before .before .pre .2)
+add-ends c = omega (
+  arith,
+  c .before .before .before .before .before .before .before .before .pre .0 .few,
+  c .before
+      .before .before .before .before .before .before .before .pre .2,
+)
 
 mul-ends : tie.Need-mul-ends Inv-loop μ-loop
-mul-ends c = omega (arith, c .before .before .before .before .before .before .before .before .pre .0 .few, c .before
-    .before .before .before .before .before .before .before .pre .2)
+mul-ends c = omega (
+  arith,
+  c .before .before .before .before .before .before .before .before .pre .0 .few,
+  c .before
+      .before .before .before .before .before .before .before .pre .2,
+)
 
 slice-write-ends : tie.Need-slice-write-ends Inv-loop μ-loop
-slice-write-ends c = omega (arith, c .before .before .before .before .before .before .before .before .pre .0 .few, c
-    .before .before .before .before .before .before .before .before .pre .2, c .before .before .before .before
-    .before .before .before .before .pre .4)
+slice-write-ends c = omega (
+  arith,
+  c .before .before .before .before .before .before .before .before .pre .0 .few,
+  c
+      .before .before .before .before .before .before .before .before .pre .2,
+  c .before .before .before .before
+      .before .before .before .before .pre .4,
+)
 
 cast-rest : tie.Need-cast-rest Inv-loop μ-loop
-cast-rest c = omega (arith, c .before .loop .inv .row .within, c .before .before .before .before .before .before
-    .before .before .pre .0 .few)
+cast-rest c = omega (
+  arith,
+  c .before .loop .inv .row .within,
+  c .before .before .before .before .before .before
+      .before .before .pre .0 .few,
+)
 
 slice-write-rest : tie.Need-slice-write-rest Inv-loop μ-loop
-slice-write-rest c = omega (arith, c .before .before .before .before .before .before .before .before .pre .0 .few, c
-    .before .before .before .before .before .before .before .before .pre .2, c .before .before .before .before
-    .before .before .before .before .pre .5)
+slice-write-rest c = omega (
+  arith,
+  c .before .before .before .before .before .before .before .before .pre .0 .few,
+  c
+      .before .before .before .before .before .before .before .before .pre .2,
+  c .before .before .before .before
+      .before .before .before .before .pre .5,
+)
 
 same-length : tie.Need-same-length Inv-loop μ-loop
 same-length c = c .before .loop .inv .long ∙ sym (c .before .before .before .before .before .before .before .before

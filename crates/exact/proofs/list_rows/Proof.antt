@@ -34,8 +34,11 @@ loop-less : tie.Need-loop-less Inv-loop μ-loop
 loop-less c = omega arith
 
 loop-again : tie.Need-loop-again Inv-loop μ-loop
-loop-again c = (refl, rows-next _ _ _ (c .before .before .before .before .before .before .before .before .before
-    .before .before .loop .inv .1) (c .before .before .before .before .before .before .list-row .ensures))
+loop-again c = (
+  refl,
+  rows-next _ _ _ (c .before .before .before .before .before .before .before .before .before
+      .before .before .loop .inv .1) (c .before .before .before .before .before .before .list-row .ensures),
+)
 
 same-length : tie.Need-same-length Inv-loop μ-loop
 same-length c = c .before .loop .inv .1 .long ∙ sym (c .before .before .before .before .before .before .before .pre .2)

@@ -45,9 +45,9 @@ slice-aggregate-spread-3 c = search needs
 spread-requires : tie.Need-spread-requires
 spread-requires c κs =
     let s = c .before .before .before .before .before .before .before .before .before .before .before .before .before
-        .before .before .before .before .before .before .before .before .before .before in
+    .before .before .before .before .before .before .before .before .before .before in
     let copy = c .before .before .before .before .before .before .before .before .before .before .before .before
-        .before .copy in
+    .before .copy in
     let copy2 = c .before .before .before .before .before .before .before .before .before .copy2 in
     let copy3 = c .before .before .before .before .before .copy3 in
     down-ready (s .args .k) (s .pre .0) (s .pre .1) (copy .ensures) (copy2 .ensures) (copy3 .ensures)
@@ -64,12 +64,12 @@ same-length-3 c = search needs
 returns : tie.Need-returns
 returns c =
     let s = c .before .before .before .before .before .before .before .before .before .before .before .before .before
-        .before .before .before .before .before .before .before .before .before .before .before .before .before
-        .before .before in
+    .before .before .before .before .before .before .before .before .before .before .before .before .before
+    .before .before in
     let copy = c .before .before .before .before .before .before .before .before .before .before .before .before
-        .before .before .before .before .before .before .copy in
+    .before .before .before .before .before .before .copy in
     let copy2 = c .before .before .before .before .before .before .before .before .before .before .before .before
-        .before .before .copy2 in
+    .before .before .copy2 in
     let spread = c .before .before .before .before .spread in (
       s .pre .0 .held,
       s .pre .0 .done-long,
@@ -83,8 +83,8 @@ slice-aggregate-copy-4 c = search needs
 copy-requires-4 : tie.Need-copy-requires-4
 copy-requires-4 c κs =
     let s = c .before .before .before .before .before .before .before .before .before .before .before .before .before
-        .before .before .before .before .before .before .before .before .before .before .before .before .before
-        .before .before .before .before in
+    .before .before .before .before .before .before .before .before .before .before .before .before .before
+    .before .before .before .before in
     let spread = c .before .before .before .before .before .before .spread in
     (spread .ensures .0 .low-long, s .pre .0 .held .low-long)
 
@@ -94,8 +94,8 @@ slice-aggregate-copy-5 c = search needs
 copy-requires-5 : tie.Need-copy-requires-5
 copy-requires-5 c κs =
     let s = c .before .before .before .before .before .before .before .before .before .before .before .before .before
-        .before .before .before .before .before .before .before .before .before .before .before .before .before
-        .before .before .before .before .before .before .before .before .before in
+    .before .before .before .before .before .before .before .before .before .before .before .before .before
+    .before .before .before .before .before .before .before .before .before in
     let spread = c .before .before .before .before .before .before .before .before .before .before .before .spread in
     (spread .ensures .0 .high-long, s .pre .0 .held .high-long)
 
@@ -105,11 +105,11 @@ slice-aggregate-copy-6 c = search needs
 copy-requires-6 : tie.Need-copy-requires-6
 copy-requires-6 c κs =
     let s = c .before .before .before .before .before .before .before .before .before .before .before .before .before
-        .before .before .before .before .before .before .before .before .before .before .before .before .before
-        .before .before .before .before .before .before .before .before .before .before .before .before .before
-        .before in
+    .before .before .before .before .before .before .before .before .before .before .before .before .before
+    .before .before .before .before .before .before .before .before .before .before .before .before .before
+    .before in
     let spread = c .before .before .before .before .before .before .before .before .before .before .before .before
-        .before .before .before .before .spread in
+    .before .before .before .before .spread in
     (spread .ensures .1, s .pre .0 .done-long)
 
 same-length-4 : tie.Need-same-length-4
@@ -124,21 +124,21 @@ same-length-6 c = search needs
 returns-2 : tie.Need-returns-2
 returns-2 c =
     let s = c .before .before .before .before .before .before .before .before .before .before .before .before .before
-        .before .before .before .before .before .before .before .before .before .before .before .before .before
-        .before .before .before .before .before .before .before .before .before .before .before .before .before
-        .before .before .before .before in
+    .before .before .before .before .before .before .before .before .before .before .before .before .before
+    .before .before .before .before .before .before .before .before .before .before .before .before .before
+    .before .before .before .before in
     let copy = c .before .before .before .before .before .before .before .before .before .before .before .before
-        .before .before .before .before .before .before .before .before .before .before .before .before .before
-        .before .before .before .before .before .before .before .before .copy in
+    .before .before .before .before .before .before .before .before .before .before .before .before .before
+    .before .before .before .before .before .before .before .before .copy in
     let copy2 = c .before .before .before .before .before .before .before .before .before .before .before .before
-        .before .before .before .before .before .before .before .before .before .before .before .before .before
-        .before .before .before .before .copy2 in
+    .before .before .before .before .before .before .before .before .before .before .before .before .before
+    .before .before .before .before .copy2 in
     let spread = c .before .before .before .before .before .before .before .before .before .before .before .before
-        .before .before .before .before .before .before .before .spread in
+    .before .before .before .before .before .before .before .spread in
     let if1 = c .before .before .before .before .before .before .before .before .before .before .before .before
-        .before .before .before .if1 in
+    .before .before .before .if1 in
     let copy4 = c .before .before .before .before .before .before .before .before .before .before .before .before
-        .copy4 in
+    .copy4 in
     let copy5 = c .before .before .before .before .before .before .before .copy5 in
     let copy6 = c .before .before .copy6 in
     let e = spread .ensures in (

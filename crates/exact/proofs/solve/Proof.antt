@@ -22,43 +22,55 @@ abbrev μ-loop : tie.MeasureT-loop
 
 loop-holds : tie.Need-loop-holds Inv-loop μ-loop
 loop-holds c =
-    let p = c .before .before .before .before .before .before .before .pre in
-    (refl, solve-start _ _ (clears-comm (c .before .before .before .before .before .before .before .args .starts
-        .now)) (p .0 .done-long) (p .0 .held) (p .1) (p .0 .marked))
+    let p = c .before .before .before .before .before .before .before .pre in (
+      refl,
+      solve-start _ _ (clears-comm (c .before .before .before .before .before .before .before .args .starts
+          .now)) (p .0 .done-long) (p .0 .held) (p .1) (p .0 .marked),
+    )
 
 settle-requires : tie.Need-settle-requires Inv-loop μ-loop
 settle-requires c κs =
     let s = c .before .before .before .before .before .before .before .before .before .before .before .before in
-    let v = c .before .before .before .before .loop .inv .1 in
-    (record { sited = s .pre .0 .sited; held = v .held; listed = still-listed (v .narrowed) (s .pre .0 .listed);
-        done-long = v .done-long; marked = v .marked }, omega arith, v .closed)
+    let v = c .before .before .before .before .loop .inv .1 in (
+      record {
+        sited = s .pre .0 .sited;
+        held = v .held;
+        listed = still-listed (v .narrowed) (s .pre .0 .listed);
+        done-long = v .done-long;
+        marked = v .marked;
+      },
+      omega arith,
+      v .closed,
+    )
 
 same-length : tie.Need-same-length Inv-loop μ-loop
 same-length c =
     c .before .before .before .before .before .before .before .settle .ensures .0 .low-long ∙ sym (c .before .before
-        .before .before .before .before .before .before .before .before .before .before .before .before .before
-        .before .before .before .before .before .pre .0 .held .low-long)
+    .before .before .before .before .before .before .before .before .before .before .before .before .before
+    .before .before .before .before .before .pre .0 .held .low-long)
 
 same-length-2 : tie.Need-same-length-2 Inv-loop μ-loop
 same-length-2 c =
     c .before .before .before .before .before .before .before .settle .ensures .0 .high-long ∙ sym (c .before .before
-        .before .before .before .before .before .before .before .before .before .before .before .before .before
-        .before .before .before .before .before .pre .0 .held .high-long)
+    .before .before .before .before .before .before .before .before .before .before .before .before .before
+    .before .before .before .before .before .pre .0 .held .high-long)
 
 same-length-3 : tie.Need-same-length-3 Inv-loop μ-loop
 same-length-3 c =
     c .before .before .before .before .before .before .before .settle .ensures .1 ∙ sym (c .before .before .before
-        .before .before .before .before .before .before .before .before .before .before .before .before .before
-        .before .before .before .before .pre .0 .done-long)
+    .before .before .before .before .before .before .before .before .before .before .before .before .before
+    .before .before .before .before .pre .0 .done-long)
 
 returns : tie.Need-returns Inv-loop μ-loop
 returns c =
     let e = c .before .before .before .before .before .before .before .settle .ensures in
     let v = c .before .before .before .before .before .before .before .before .before .before .before .before .loop
-        .inv .1 in
-    (e .0, judge-no (solve-none _ _ (clears-comm (c .before .before .before .before .before .before .before .before
-        .before .before .before .before .before .before .before .before .before .before .before .before .args .starts
-        .now)) v (e .2 .no (not-true _ (c .if1 .taken)))))
+    .inv .1 in (
+      e .0,
+      judge-no (solve-none _ _ (clears-comm (c .before .before .before .before .before .before .before .before
+          .before .before .before .before .before .before .before .before .before .before .before .before .args .starts
+          .now)) v (e .2 .no (not-true _ (c .if1 .taken)))),
+    )
 
 add-k : tie.Need-add-k Inv-loop μ-loop
 add-k c = omega arith
@@ -70,7 +82,7 @@ loop-again : tie.Need-loop-again Inv-loop μ-loop
 loop-again c =
     let e = c .before .before .before .before .before .before .before .settle .ensures in
     let v = c .before .before .before .before .before .before .before .before .before .before .before .before .loop
-        .inv .1 in (
+    .inv .1 in (
       refl,
       solve-next _ _ (clears-comm (c .before .before .before .before .before .before .before .before .before .before
           .before .before .before .before .before .before .before .before .before .before .args .starts .now)) v
@@ -80,23 +92,25 @@ loop-again c =
 same-length-4 : tie.Need-same-length-4 Inv-loop μ-loop
 same-length-4 c =
     c .before .loop .inv .1 .held .low-long ∙ sym (c .before .before .before .before .before .before .before .before
-        .before .pre .0 .held .low-long)
+    .before .pre .0 .held .low-long)
 
 same-length-5 : tie.Need-same-length-5 Inv-loop μ-loop
 same-length-5 c =
     c .before .loop .inv .1 .held .high-long ∙ sym (c .before .before .before .before .before .before .before .before
-        .before .pre .0 .held .high-long)
+    .before .pre .0 .held .high-long)
 
 same-length-6 : tie.Need-same-length-6 Inv-loop μ-loop
 same-length-6 c =
     c .before .loop .inv .1 .done-long ∙ sym (c .before .before .before .before .before .before .before .before
-        .before .pre .0 .done-long)
+    .before .pre .0 .done-long)
 
 returns-2 : tie.Need-returns-2 Inv-loop μ-loop
 returns-2 c =
-    let v = c .before .loop .inv .1 in
-    (v .held, judge-yes (solve-end _ _ (clears-comm (c .before .before .before .before .before .before .before
-        .before .before .args .starts .now)) v (omega arith)))
+    let v = c .before .loop .inv .1 in (
+      v .held,
+      judge-yes (solve-end _ _ (clears-comm (c .before .before .before .before .before .before .before
+          .before .before .args .starts .now)) v (omega arith)),
+    )
 
 pub solve-spec : {M : Type 1} → statement M
 solve-spec =

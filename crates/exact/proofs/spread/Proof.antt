@@ -36,7 +36,7 @@ loop-holds c =
 strike-requires : tie.Need-strike-requires Inv-loop μ-loop
 strike-requires c κs =
     let s = c .before .before .before .before .before .before .before .before .before .before .before .before .before
-        .before .before in
+    .before .before in
     let l = c .before .before .before .loop in
     let v = l .inv .1 in
     (s .pre .sited, v .held, omega arith, v .next .one (omega arith), still-listed (v .narrowed) (s .pre .listed))
@@ -44,21 +44,21 @@ strike-requires c κs =
 same-length : tie.Need-same-length Inv-loop μ-loop
 same-length c =
     let s = c .before .before .before .before .before .before .before .before .before .before .before .before .before
-        .before .before .before .before .before .before .before .before in
+    .before .before .before .before .before .before .before .before in
     let strike = c .before .before .before .before .before .strike in
     strike .ensures .0 .low-long ∙ sym (s .pre .held .low-long)
 
 same-length-2 : tie.Need-same-length-2 Inv-loop μ-loop
 same-length-2 c =
     let s = c .before .before .before .before .before .before .before .before .before .before .before .before .before
-        .before .before .before .before .before .before .before .before in
+    .before .before .before .before .before .before .before .before in
     let strike = c .before .before .before .before .before .strike in
     strike .ensures .0 .high-long ∙ sym (s .pre .held .high-long)
 
 same-length-3 : tie.Need-same-length-3 Inv-loop μ-loop
 same-length-3 c =
     let s = c .before .before .before .before .before .before .before .before .before .before .before .before .before
-        .before .before .before .before .before .before .before .before in
+    .before .before .before .before .before .before .before .before in
     let l = c .before .before .before .before .before .before .before .before .before .loop in
     l .inv .1 .done-long ∙ sym (s .pre .done-long)
 
@@ -66,9 +66,12 @@ returns : tie.Need-returns Inv-loop μ-loop
 returns c =
     let l = c .before .before .before .before .before .before .before .before .before .loop in
     let strike = c .before .before .before .before .before .strike in
-    let v = l .inv .1 in
-    (strike .ensures .0, v .done-long, judge-no (spread-none _ _ v (strike .ensures .1 .no (not-true _ (c .if1
-        .taken)))))
+    let v = l .inv .1 in (
+      strike .ensures .0,
+      v .done-long,
+      judge-no (spread-none _ _ v (strike .ensures .1 .no (not-true _ (c .if1
+          .taken)))),
+    )
 
 slice-write-done : tie.Need-slice-write-done Inv-loop μ-loop
 slice-write-done c =
@@ -83,20 +86,24 @@ find-next-requires-2 c κs =
     let l = c .before .before .before .before .before .before .before .before .before .before .before .before .loop in
     let strike = c .before .before .before .before .before .before .before .before .strike in
     let h = strike .ensures .0 in
-    let e = l .inv .1 .done-long in
-    (omega arith, omega (arith, h .room, h .low-long), omega (arith, h .room, h .high-long), simp length-set (omega
-        (arith, h .room, e)))
+    let e = l .inv .1 .done-long in (
+      omega arith,
+      omega (arith, h .room, h .low-long),
+      omega (arith, h .room, h .high-long),
+      simp length-set (omega
+          (arith, h .room, e)),
+    )
 
 loop-less : tie.Need-loop-less Inv-loop μ-loop
 loop-less c =
     let l = c .before .before .before .before .before .before .before .before .before .before .before .before .before
-        .loop in
+    .loop in
     let v = l .inv .1 in omega (arith, spread-less _ _ v (omega arith))
 
 loop-again : tie.Need-loop-again Inv-loop μ-loop
 loop-again c =
     let l = c .before .before .before .before .before .before .before .before .before .before .before .before .before
-        .loop in
+    .loop in
     let strike = c .before .before .before .before .before .before .before .before .before .strike in
     let if1 = c .before .before .before .before .if1 in
     let v = l .inv .1 in (

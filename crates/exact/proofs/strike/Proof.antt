@@ -16,8 +16,11 @@ shared-slice-read-begin : tie.Need-shared-slice-read-begin
 shared-slice-read-begin c = search needs
 
 cast-begin : tie.Need-cast-begin
-cast-begin c = omega (arith, c .shared-slice-known5 .given (c .before .before .before .before .before .before .before
-    .args .f))
+cast-begin c = omega (
+  arith,
+  c .shared-slice-known5 .given (c .before .before .before .before .before .before .before
+      .args .f),
+)
 
 add-end : tie.Need-add-end
 add-end c = search needs
@@ -29,8 +32,11 @@ shared-slice-read-end : tie.Need-shared-slice-read-end
 shared-slice-read-end c = search needs
 
 cast-end : tie.Need-cast-end
-cast-end c = omega (arith, c .shared-slice-known6 .given (c .before .before .before .before .before .before .before
-    .before .args .f + 1))
+cast-end c = omega (
+  arith,
+  c .shared-slice-known6 .given (c .before .before .before .before .before .before .before
+      .before .args .f + 1),
+)
 
 strike-listed-requires : tie.Need-strike-listed-requires
 strike-listed-requires c κs =
@@ -53,17 +59,24 @@ shared-slice-read-strike-rest : tie.Need-shared-slice-read-strike-rest
 shared-slice-read-strike-rest c = search needs
 
 cast-strike-rest : tie.Need-cast-strike-rest
-cast-strike-rest c = omega (arith, c .shared-slice-known7 .given (c .before .before .before .before .before .before
-    .before .before .before .before .before .before .before .before .before .before .before .args .f))
+cast-strike-rest c = omega (
+  arith,
+  c .shared-slice-known7 .given (c .before .before .before .before .before .before
+      .before .before .before .before .before .before .before .before .before .before .before .args .f),
+)
 
 strike-rest-requires : tie.Need-strike-rest-requires
 strike-rest-requires c κs =
     let s = c .before .before .before .before .before .before .before .before .before .before .before .before .before
-        .before .before .before .before .before .before in
+    .before .before .before .before .before .before in
     let p = s .pre in
-    let e = c .before .before .before .before .before .before .before .before .strike-listed .ensures in
-    (p .0, e .0, p .2, still-one (e .1 .yes (not-false _ (c .before .before .before .if1 .left)) .narrowed) (s .args
-        .f) (p .2) (p .3))
+    let e = c .before .before .before .before .before .before .before .before .strike-listed .ensures in (
+      p .0,
+      e .0,
+      p .2,
+      still-one (e .1 .yes (not-false _ (c .before .before .before .if1 .left)) .narrowed) (s .args
+          .f) (p .2) (p .3),
+    )
 
 same-length-3 : tie.Need-same-length-3
 same-length-3 c = search needs
@@ -74,11 +87,11 @@ same-length-4 c = search needs
 returns-2 : tie.Need-returns-2
 returns-2 c =
     let s = c .before .before .before .before .before .before .before .before .before .before .before .before .before
-        .before .before .before .before .before .before .before .before .before .before .before in
+    .before .before .before .before .before .before .before .before .before .before .before in
     let p = s .pre in
     let v = c .before .before .before .before .before .before .before .before .before .before .before .before .before
-        .strike-listed .ensures .1 .yes (not-false _ (c .before .before .before .before .before .before .before
-        .before .if1 .left)) in
+    .strike-listed .ensures .1 .yes (not-false _ (c .before .before .before .before .before .before .before
+    .before .if1 .left)) in
     let e = c .before .before .before .before .strike-rest .ensures in (
       e .0,
       record {

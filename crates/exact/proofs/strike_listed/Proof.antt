@@ -58,17 +58,17 @@ strike-one-requires c κs =
 same-length : tie.Need-same-length Inv-loop μ-loop
 same-length c =
     ap length (c .before .before .before .before .before .strike-one .ensures .1 .no (not-true _ (c .if1 .taken)) .0)
-        ∙ c .before .before .before .before .before .before .before .before .before .before .loop .inv .1 .low-same
+    ∙ c .before .before .before .before .before .before .before .before .before .before .loop .inv .1 .low-same
 
 same-length-2 : tie.Need-same-length-2 Inv-loop μ-loop
 same-length-2 c =
     ap length (c .before .before .before .before .before .strike-one .ensures .1 .no (not-true _ (c .if1 .taken)) .1)
-        ∙ c .before .before .before .before .before .before .before .before .before .before .loop .inv .1 .high-same
+    ∙ c .before .before .before .before .before .before .before .before .before .before .loop .inv .1 .high-same
 
 returns : tie.Need-returns Inv-loop μ-loop
 returns c =
     let s = c .before .before .before .before .before .before .before .before .before .before .before .before .before
-        .before .before .before in
+    .before .before .before in
     let l = c .before .before .before .before .before .before .before .before .before .before .loop in
     let v = l .inv .1 in
     let o = s .pre .5 in
@@ -88,7 +88,7 @@ loop-less c = omega arith
 loop-again : tie.Need-loop-again Inv-loop μ-loop
 loop-again c =
     let s = c .before .before .before .before .before .before .before .before .before .before .before .before .before
-        .before .before .before in
+    .before .before .before in
     let l = c .before .before .before .before .before .before .before .before .before .before .loop in
     let v = l .inv .1 in
     let o = s .pre .5 in

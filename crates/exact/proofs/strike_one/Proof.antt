@@ -26,7 +26,7 @@ returns : tie.Need-returns
 returns c =
     let a = c .before .before .before .before .before .before .before .args in
     one-struck (a .starts .now) (a .lo .now) (a .hi .now) (a .f) (a .d) (a .g) (c .before .does-pass .ensures) (c
-        .if1 .taken)
+    .if1 .taken)
 
 does-pass-requires-2 : tie.Need-does-pass-requires-2
 does-pass-requires-2 c κs =
@@ -40,7 +40,7 @@ returns-2 : tie.Need-returns-2
 returns-2 c =
     let a = c .before .before .before .before .before .before .before .before .before .args in
     none-struck (a .starts .now) (a .lo .now) (a .hi .now) (a .f) (a .d) (a .g) (c .before .before .before .does-pass
-        .ensures)
+    .ensures)
     (c .before .does-pass2 .ensures) (c .if2 .taken)
 
 pick-requires : tie.Need-pick-requires
@@ -65,9 +65,9 @@ returns-3 : tie.Need-returns-3
 returns-3 c =
     let a = c .before .before .before .before .before .before .before .before .before .before .before .args in
     two-struck (a .starts .now) (a .lo .now) (a .hi .now) (a .f) (a .d) (a .g) (c .before .before .before .before
-        .before .does-pass .ensures)
+    .before .does-pass .ensures)
     (c .before .before .before .does-pass2 .ensures) (not-false _ (c .before .before .if2 .left)) (c .before .pick
-        .ensures) (c .pick2 .ensures)
+    .ensures) (c .pick2 .ensures)
 
 pub strike-one-spec : {M : Type 1} → statement M
 strike-one-spec =

@@ -50,18 +50,18 @@ same-length : tie.Need-same-length Inv-loop μ-loop
 same-length c =
     let l = c .before .before .before .before .before .before .before .before .before .before in
     ap length (c .before .before .before .before .before .strike-one .ensures .1 .no (not-true _ (c .if2 .taken)) .0)
-        ∙ l .loop .inv .1 .low-same
+    ∙ l .loop .inv .1 .low-same
 
 same-length-2 : tie.Need-same-length-2 Inv-loop μ-loop
 same-length-2 c =
     let l = c .before .before .before .before .before .before .before .before .before .before in
     ap length (c .before .before .before .before .before .strike-one .ensures .1 .no (not-true _ (c .if2 .taken)) .1)
-        ∙ l .loop .inv .1 .high-same
+    ∙ l .loop .inv .1 .high-same
 
 returns : tie.Need-returns Inv-loop μ-loop
 returns c =
     let s = c .before .before .before .before .before .before .before .before .before .before .before .before .before
-        .before .before in
+    .before .before in
     let l = c .before .before .before .before .before .before .before .before .before .before in
     let v = l .loop .inv .1 in
     let e = c .before .before .before .before .before .strike-one .ensures in

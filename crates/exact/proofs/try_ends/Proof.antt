@@ -15,7 +15,7 @@ may-end-requires : tie.Need-may-end-requires
 may-end-requires c κs =
     let s = c .before .before .before .before .before .before .before in
     let d = end-way (s .args .columns) 3 1 _ (omega arith) (omega arith) (omega arith) (omega arith) (c .pick
-        .ensures) in
+    .ensures) in
     (s .pre .table-long, s .pre .sited .few, d .0, d .1)
 
 returns : tie.Need-returns
@@ -24,7 +24,7 @@ returns c =
       c .before .before .before .before .before .before .before .before .before .pre .best-long,
       better-skip (a .starts .now) (a .table .now)
           (λ q f r. end-refused (a .starts .now) (a .table .now) _ (a .b) _ (c .before .may-end .ensures) (c .if1
-              .taken) q f
+          .taken) q f
           (λ l. r .b-goes l ∙ sym (c .before .before .pick .ensures))),
     )
 
@@ -40,35 +40,37 @@ is-tried-requires c κs = search needs
 returns-2 : tie.Need-returns-2
 returns-2 c =
     let a = c .before .before .before .before .before .before .before .before .before .before .before .before .before
-        .args in (
+    .args in (
       c .before .before .before .before .before .before .before .before .before .before .before .before .before .pre
           .best-long,
       better-skip (a .starts .now) (a .table .now)
           (not-tried (a .starts .now) (a .table .now) (a .columns) (a .a) (a .b) _ _ (c .before .before .before
-              .find-end .ensures) (c .before .before .find-end2 .ensures) _
+          .find-end .ensures) (c .before .before .find-end2 .ensures) _
           (c .before .is-tried .ensures) (c .if2 .taken)),
     )
 
 try-pair-requires : tie.Need-try-pair-requires
-try-pair-requires c κs =
-    (c .before .before .before .before .before .before .before .before .before .before .before .before .before
-        .before .pre, sym (c .before .before .is-tried .ensures) ∙ not-false _ (c .before .if2 .left))
+try-pair-requires c κs = (
+  c .before .before .before .before .before .before .before .before .before .before .before .before .before
+      .before .pre,
+  sym (c .before .before .is-tried .ensures) ∙ not-false _ (c .before .if2 .left),
+)
 
 same-length : tie.Need-same-length
 same-length c =
     c .before .before .try-pair .ensures .0 ∙ sym (c .before .before .before .before .before .before .before .before
-        .before .before .before .before .before .before .before .before .before .pre .best-long)
+    .before .before .before .before .before .before .before .before .before .pre .best-long)
 
 returns-3 : tie.Need-returns-3
 returns-3 c =
     let a = c .before .before .before .before .before .before .before .before .before .before .before .before .before
-        .before .before .before .before .args in
+    .before .before .before .before .args in
     let e = c .before .before .try-pair .ensures in (
       e .0,
       better-weaken (a .starts .now) (a .table .now)
           (covered-left (a .starts .now) (a .table .now) (a .columns) (a .a) (a .b) _ _ (c .before .before .before
-              .before .before .before .before .find-end .ensures) (c .before .before .before .before .before .before
-              .find-end2 .ensures)) (e .1),
+          .before .before .before .before .find-end .ensures) (c .before .before .before .before .before .before
+          .find-end2 .ensures)) (e .1),
     )
 
 pub try-ends-spec : {M : Type 1} → statement M

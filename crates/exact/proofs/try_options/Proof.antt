@@ -18,8 +18,14 @@ slice-aggregate-spread c = search needs
 spread-requires : tie.Need-spread-requires
 spread-requires c κs =
     let s = c .before .before .before .before .before .before .before .before .before .before in
-    record { sited = s .pre .0; held = s .pre .1; listed = s .pre .3; done-long = search needs; marked = zeros-marked
-        (s .pre .0 .few) }
+    record {
+      sited = s .pre .0;
+      held = s .pre .1;
+      listed = s .pre .3;
+      done-long = search needs;
+      marked = zeros-marked
+          (s .pre .0 .few);
+    }
 
 same-length : tie.Need-same-length
 same-length c = search needs
@@ -30,11 +36,15 @@ same-length-2 c = search needs
 returns : tie.Need-returns
 returns c =
     let a = c .before .before .before .before .before .before .before .before .before .before .before .before .before
-        .before .before .before .before .args in
-    let e = c .before .before .before .before .before .before .spread .ensures in
-    (e .0 .low-long, e .0 .high-long, c .before .before .before .before .before .before .before .before .before
-        .before .before .before .before .before .before .before .before .pre .2, takes-none (a .starts .now) (a .lo
-        .now) (a .hi .now) (a .have) (a .best .now) (e .2 .no (not-true _ (c .if1 .taken))))
+    .before .before .before .before .args in
+    let e = c .before .before .before .before .before .before .spread .ensures in (
+      e .0 .low-long,
+      e .0 .high-long,
+      c .before .before .before .before .before .before .before .before .before
+          .before .before .before .before .before .before .before .before .pre .2,
+      takes-none (a .starts .now) (a .lo
+          .now) (a .hi .now) (a .have) (a .best .now) (e .2 .no (not-true _ (c .if1 .taken))),
+    )
 
 is-before-requires : tie.Need-is-before-requires
 is-before-requires c κs = search needs
@@ -51,10 +61,10 @@ same-length-5 c = search needs
 returns-2 : tie.Need-returns-2
 returns-2 c =
     let a = c .before .before .before .before .before .before .before .before .before .before .before .before .before
-        .before .before .before .before .before .before .before .before .args in
+    .before .before .before .before .before .before .before .before .args in
     let e = c .before .before .before .before .before .before .before .before .before .before .spread .ensures in
     let t = (c .before .before .before .before .before .before .before .before .before .before .spread .ensures .2
-        .yes (not-false _ (c .before .before .before .before .if1 .left))) in (
+    .yes (not-false _ (c .before .before .before .before .if1 .left))) in (
       e .0 .low-long,
       e .0 .high-long,
       c .before .before .before .before .before .before .before .before .before .before .before .before .before
@@ -63,7 +73,7 @@ returns-2 c =
           .before .before .before .before .before .before .before .spread .last .1 .1 .1 .1 .1 .0) (c .before
           .is-before .result)
           (λ q z. least-first (a .starts .now) _ _ (e .0) q (t .keeps q z)) (c .if2 .taken) (c .before .is-before
-              .ensures .no),
+          .ensures .no),
     )
 
 slice-aggregate-solve : tie.Need-slice-aggregate-solve
@@ -72,14 +82,21 @@ slice-aggregate-solve c = search needs
 solve-requires : tie.Need-solve-requires
 solve-requires c κs =
     let s = c .before .before .before .before .before .before .before .before .before .before .before .before .before
-        .before .before .before .before .before .before .before .before .before .before .before in
+    .before .before .before .before .before .before .before .before .before .before .before in
     let e = c .before .before .before .before .before .before .before .before .before .before .before .before .before
-        .spread .ensures in
+    .spread .ensures in
     let t = (c .before .before .before .before .before .before .before .before .before .before .before .before
-        .before .spread .ensures .2 .yes (not-false _ (c .before .before .before .before .before .before .before .if1
-        .left))) in
-    (record { sited = s .pre .0; held = e .0; listed = still-listed (t .narrowed) (s .pre .3); done-long = e .1;
-        marked = t .marked }, t .closed)
+    .before .spread .ensures .2 .yes (not-false _ (c .before .before .before .before .before .before .before .if1
+    .left))) in (
+      record {
+        sited = s .pre .0;
+        held = e .0;
+        listed = still-listed (t .narrowed) (s .pre .3);
+        done-long = e .1;
+        marked = t .marked;
+      },
+      t .closed,
+    )
 
 same-length-6 : tie.Need-same-length-6
 same-length-6 c = search needs
@@ -93,25 +110,35 @@ same-length-8 c = search needs
 returns-3 : tie.Need-returns-3
 returns-3 c =
     let a = c .before .before .before .before .before .before .before .before .before .before .before .before .before
-        .before .before .before .before .before .before .before .before .before .before .before .before .before
-        .before .before .before .before .before .args in
+    .before .before .before .before .before .before .before .before .before .before .before .before .before
+    .before .before .before .before .before .args in
     let t = (c .before .before .before .before .before .before .before .before .before .before .before .before
-        .before .before .before .before .before .before .before .before .spread .ensures .2 .yes (not-false _ (c
-        .before .before .before .before .before .before .before .before .before .before .before .before .before
-        .before .if1 .left))) in
-    let e = c .before .before .before .before .before .before .solve .ensures in
-    (e .0 .low-long, e .0 .high-long, c .before .before .before .before .before .before .before .before .before
-        .before .before .before .before .before .before .before .before .before .before .before .before .before
-        .before .before .before .before .before .before .before .before .before .pre .2, takes-none (a .starts .now)
-        (a .lo .now) (a .hi .now) (a .have) (a .best .now) (after-none _ _ t (e .1 .no (not-true _ (c .if3 .taken)))))
+    .before .before .before .before .before .before .before .before .spread .ensures .2 .yes (not-false _ (c
+    .before .before .before .before .before .before .before .before .before .before .before .before .before
+    .before .if1 .left))) in
+    let e = c .before .before .before .before .before .before .solve .ensures in (
+      e .0 .low-long,
+      e .0 .high-long,
+      c .before .before .before .before .before .before .before .before .before
+          .before .before .before .before .before .before .before .before .before .before .before .before .before
+          .before .before .before .before .before .before .before .before .before .pre .2,
+      takes-none (a .starts .now)
+          (a .lo .now) (a .hi .now) (a .have) (a .best .now) (after-none _ _ t (e .1 .no (not-true _ (c .if3 .taken)))),
+    )
 
 is-before-requires-2 : tie.Need-is-before-requires-2
 is-before-requires-2 c κs =
     let p = c .before .before .before .before .before .before .before .before .before .before .before .before .before
-        .before .before .before .before .before .before .before .before .before .before .before .before .before
-        .before .before .before .before .before .before .before .pre in
-    (omega (arith, p .0 .few, c .before .before .before .before .before .before .before .before .solve .ensures .0
-        .low-long), omega (arith, p .0 .few, p .2))
+    .before .before .before .before .before .before .before .before .before .before .before .before .before
+    .before .before .before .before .before .before .before .pre in (
+      omega (
+        arith,
+        p .0 .few,
+        c .before .before .before .before .before .before .before .before .solve .ensures .0
+            .low-long,
+      ),
+      omega (arith, p .0 .few, p .2),
+    )
 
 same-length-9 : tie.Need-same-length-9
 same-length-9 c = search needs
@@ -125,12 +152,12 @@ same-length-11 c = search needs
 returns-4 : tie.Need-returns-4
 returns-4 c =
     let a = c .before .before .before .before .before .before .before .before .before .before .before .before .before
-        .before .before .before .before .before .before .before .before .before .before .before .before .before
-        .before .before .before .before .before .before .before .before .before .args in
+    .before .before .before .before .before .before .before .before .before .before .before .before .before
+    .before .before .before .before .before .before .before .before .before .args in
     let t = (c .before .before .before .before .before .before .before .before .before .before .before .before
-        .before .before .before .before .before .before .before .before .before .before .before .before .spread
-        .ensures .2 .yes (not-false _ (c .before .before .before .before .before .before .before .before .before
-        .before .before .before .before .before .before .before .before .before .if1 .left))) in
+    .before .before .before .before .before .before .before .before .before .before .before .before .spread
+    .ensures .2 .yes (not-false _ (c .before .before .before .before .before .before .before .before .before
+    .before .before .before .before .before .before .before .before .before .if1 .left))) in
     let e = c .before .before .before .before .before .before .before .before .before .before .solve .ensures in
     let first = after-first _ _ t (e .1 .yes (not-false _ (c .before .before .before .before .if3 .left))) in (
       e .0 .low-long,
@@ -145,12 +172,14 @@ returns-4 c =
     )
 
 copy-requires : tie.Need-copy-requires
-copy-requires c κs =
-    (c .before .before .before .before .before .before .before .before .before .before .before .before .solve
-        .ensures .0 .low-long, c .before .before .before .before .before .before .before .before .before .before
-        .before .before .before .before .before .before .before .before .before .before .before .before .before
-        .before .before .before .before .before .before .before .before .before .before .before .before .before
-        .before .pre .2)
+copy-requires c κs = (
+  c .before .before .before .before .before .before .before .before .before .before .before .before .solve
+      .ensures .0 .low-long,
+  c .before .before .before .before .before .before .before .before .before .before
+      .before .before .before .before .before .before .before .before .before .before .before .before .before
+      .before .before .before .before .before .before .before .before .before .before .before .before .before
+      .before .pre .2,
+)
 
 same-length-12 : tie.Need-same-length-12
 same-length-12 c = search needs
@@ -164,18 +193,18 @@ same-length-14 c = search needs
 returns-5 : tie.Need-returns-5
 returns-5 c =
     let a = c .before .before .before .before .before .before .before .before .before .before .before .before .before
-        .before .before .before .before .before .before .before .before .before .before .before .before .before
-        .before .before .before .before .before .before .before .before .before .before .before .before .before
-        .before .args in
+    .before .before .before .before .before .before .before .before .before .before .before .before .before
+    .before .before .before .before .before .before .before .before .before .before .before .before .before
+    .before .args in
     let t = (c .before .before .before .before .before .before .before .before .before .before .before .before
-        .before .before .before .before .before .before .before .before .before .before .before .before .before
-        .before .before .before .before .spread .ensures .2 .yes (not-false _ (c .before .before .before .before
-        .before .before .before .before .before .before .before .before .before .before .before .before .before
-        .before .before .before .before .before .before .if1 .left))) in
+    .before .before .before .before .before .before .before .before .before .before .before .before .before
+    .before .before .before .before .spread .ensures .2 .yes (not-false _ (c .before .before .before .before
+    .before .before .before .before .before .before .before .before .before .before .before .before .before
+    .before .before .before .before .before .before .if1 .left))) in
     let e = c .before .before .before .before .before .before .before .before .before .before .before .before .before
-        .before .before .solve .ensures in
+    .before .before .solve .ensures in
     let first = after-first _ _ t (e .1 .yes (not-false _ (c .before .before .before .before .before .before .before
-        .before .before .if3 .left))) in
+    .before .before .if3 .left))) in
     let copy = c .before .before .copy in (
       e .0 .low-long,
       e .0 .high-long,

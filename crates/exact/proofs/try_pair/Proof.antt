@@ -34,9 +34,9 @@ slice-aggregate-try-options-2 c = search needs
 try-options-requires : tie.Need-try-options-requires
 try-options-requires c κs =
     let s = c .before .before .before .before .before .before .before .before .before .before .before .before .before
-        .before .before in
+    .before .before in
     let o = c .before .before .before .before .before .before .set-options .ensures .yes (not-false _ (c .before
-        .before .before .if1 .left)) in
+    .before .before .if1 .left)) in
     (s .pre .0 .sited, o .held, s .pre .0 .best-long, offers-listed o (s .pre .0 .listed))
 
 same-length : tie.Need-same-length
@@ -45,9 +45,9 @@ same-length c = search needs
 returns-2 : tie.Need-returns-2
 returns-2 c =
     let a = c .before .before .before .before .before .before .before .before .before .before .before .before .before
-        .before .before .before .before .before .before .before .args in
+    .before .before .before .before .before .before .before .args in
     let o = c .before .before .before .before .before .before .before .before .before .before .before .set-options
-        .ensures .yes (not-false _ (c .before .before .before .before .before .before .before .before .if1 .left)) in
+    .ensures .yes (not-false _ (c .before .before .before .before .before .before .before .before .if1 .left)) in
     let e = c .before .before .before .before .try-options .ensures in
     (e .2, better-takes (a .starts .now) (a .table .now) (a .columns) (a .a) (a .b) _ _ o (e .3))
 

@@ -23,15 +23,23 @@ add-a-end c =
 
 loop-holds : tie.Need-loop-holds Inv-loop μ-loop
 loop-holds c =
-    let a = c .before .before .before .before .before .before .args in
-    (refl, c .before .before .before .before .before .before .pre .best-long, better-skip (a .starts .now) (a .table
-        .now) (λ q f. none-below _ q))
+    let a = c .before .before .before .before .before .before .args in (
+      refl,
+      c .before .before .before .before .before .before .pre .best-long,
+      better-skip (a .starts .now) (a .table
+          .now) (λ q f. none-below _ q),
+    )
 
 try-row-requires : tie.Need-try-row-requires Inv-loop μ-loop
 try-row-requires c κs =
     let s = c .before .before .before .before .before .before .before .before .before in
-    record { sited = s .pre .sited; table-long = s .pre .table-long; listed = s .pre .listed; best-long = c .before
-        .before .loop .inv .1 }
+    record {
+      sited = s .pre .sited;
+      table-long = s .pre .table-long;
+      listed = s .pre .listed;
+      best-long = c .before
+          .before .loop .inv .1;
+    }
 
 add-a : tie.Need-add-a Inv-loop μ-loop
 add-a c =

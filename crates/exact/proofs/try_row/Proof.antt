@@ -27,7 +27,7 @@ may-end-requires : tie.Need-may-end-requires Inv-loop μ-loop
 may-end-requires c κs =
     let s = c .before .before .before .before .before .before .before in
     let d = end-way (s .args .columns) 4 2 _ (omega arith) (omega arith) (omega arith) (omega arith) (c .pick
-        .ensures) in
+    .ensures) in
     (s .pre .table-long, s .pre .sited .few, d .0, d .1)
 
 returns : tie.Need-returns Inv-loop μ-loop
@@ -53,8 +53,13 @@ loop-holds c =
 try-ends-requires : tie.Need-try-ends-requires Inv-loop μ-loop
 try-ends-requires c κs =
     let s = c .before .before .before .before .before .before .before .before .before .before .before .before in
-    record { sited = s .pre .sited; table-long = s .pre .table-long; listed = s .pre .listed; best-long = c .before
-        .before .loop .inv .1 }
+    record {
+      sited = s .pre .sited;
+      table-long = s .pre .table-long;
+      listed = s .pre .listed;
+      best-long = c .before
+          .before .loop .inv .1;
+    }
 
 add-b : tie.Need-add-b Inv-loop μ-loop
 add-b c = omega arith
@@ -65,7 +70,7 @@ loop-less c = omega arith
 loop-again : tie.Need-loop-again Inv-loop μ-loop
 loop-again c =
     let s = c .before .before .before .before .before .before .before .before .before .before .before .before .before
-        .before .before in
+    .before .before in
     let v = c .before .before .before .before .before .loop .inv in
     let e = c .before .before .try-ends .ensures in
     (v .0, e .0, better-more (s .args .starts .now) (s .args .table .now) (next-below _ _) (v .2) (e .1))
@@ -73,7 +78,7 @@ loop-again c =
 same-length : tie.Need-same-length Inv-loop μ-loop
 same-length c =
     c .before .loop .inv .1 ∙ sym (c .before .before .before .before .before .before .before .before .before .before
-        .before .pre .best-long)
+    .before .pre .best-long)
 
 returns-2 : tie.Need-returns-2 Inv-loop μ-loop
 returns-2 c =
