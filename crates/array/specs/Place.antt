@@ -18,7 +18,7 @@ column p = p % 32
 abbrev pub size : ℕ → Bool
 size k = leb 1 k && leb k 30
 
--- By row and column, which may be any numbers (a file's reach 16,383):
+-- By row and column, which may be any numbers (a file's reach 2,097,151):
 -- the inner processors, one for each logical cell
 abbrev pub inner-at : ℕ → ℕ → ℕ → ℕ → Bool
 inner-at n m x y = (leb 1 x && leb x n) && (leb 1 y && leb y m)

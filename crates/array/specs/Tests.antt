@@ -52,7 +52,7 @@ told (Refused r) = refuses-as r
 
 -- the documents' numbers of refusals are 1 to this one
 abbrev pub last-number : ℕ
-last-number = 20
+last-number = 21
 
 -- no refusal, or one with such a number
 abbrev pub Numbered : Told → Type 0

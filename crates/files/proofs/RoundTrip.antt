@@ -13,6 +13,8 @@ use lib.Seq.{set-at, getD-at, append-snoc, take-append-seam}
 use Rattle.array.specs.Place.{row, column, position, size}
 use Rattle.array.specs.Buffer.{buffer, positions-along}
 use Rattle.array.specs.Map.{dead-mark, allowed}
+use Rattle.array.specs.Tests.{refusal}
+use Rattle.array.specs.declared.Refusal.{Refusal}
 use Rattle.array.specs.declared.Verdict.{Verdict}
 use Rattle.array.specs.declared.Verdict.the-variants.{Accepted, Refused}
 use Rattle.array.proofs.Bools.{by-bool, by-eq, by-lt, and-both}
@@ -21,30 +23,33 @@ use Rattle.array.proofs.Scans.{scan-each, buffer-scan}
 use Rattle.array.proofs.Fills.{tabulate-length, tabulate-at}
 use Rattle.array.proofs.Filters.{positions-short}
 use Rattle.formats.specs.Number.{number-at, bytes-of}
-use Rattle.formats.specs.Records.{recorded, record-bytes, records-along, record-count, list-bytes, first-list, second-list, file-bytes, file-count, blank}
+use Rattle.formats.specs.Records.{recorded, record-bytes, records-along, record-count, list-bytes, first-list, rest-bytes, file-bytes, file-count, file-trials, blank}
 use Rattle.formats.specs.declared.Number.the-variants.{Read}
 use Rattle.formats.specs.declared.Kind.{Kind}
 use Rattle.formats.specs.declared.Kind.the-variants.{Map, Plan}
 use Rattle.formats.specs.declared.Record.{Record}
 use Rattle.formats.specs.declared.Record.the-variants.{Fault, Dead, Path}
+use Rattle.formats.proofs.Cases.{ended}
 use Rattle.formats.proofs.Trip.{read-written, read-at}
-use Rattle.readers.specs.Reading.{record-at, records-at, read-file}
+use Rattle.readers.specs.Reading.{record-at, records-at, trials-at, rest-at, read-file, read-plan, map-of}
 use Rattle.readers.specs.Parts.{repeated}
+use Rattle.readers.specs.declared.FileRead.{FileRead}
 use Rattle.readers.specs.declared.Step.{Step}
 use Rattle.readers.specs.declared.Step.the-variants.{Next}
-use Rattle.readers.proofs.Cases.{blank-length, blank-at, record-marked, marked-in-order, in-order, more-suc, none-left, size-good}
+use Rattle.readers.proofs.Cases.{blank-length, blank-at, record-marked, marked-in-order, in-order, more-suc, none-left, size-good, head-read, trials-cut, trials-some, whole-more}
 use Rattle.readers.proofs.Taken.{List-taken, Ended, Second-taken, Rest-taken, File-taken, taken-file}
-use Rattle.writers.specs.Writing.{buffer-test, write-file}
+use Rattle.writers.specs.Writing.{buffer-test, trials-test, write-file}
 use Rattle.writers.specs.Parts.{value-bytes, records-of}
 use Rattle.writers.specs.declared.FileWritten.{FileWritten}
-use Rattle.writers.proofs.Accepted.{element-test, Passed, passed, file-refused, file-accepted, put-short, put-whole}
+use Rattle.writers.proofs.Accepted.{element-test, Passed, passed, trials-low, file-refused, file-accepted, file-recorded, put-short, put-whole}
 use Rattle.writers.proofs.Records.{dead-some}
 use Rattle.files.specs.RoundTrip.{Round-trip}
+use Rattle.files.specs.Endings.{Plan-endings}
 use Rattle.files.proofs.Elements.{Read-in, Turned, alive, value-recorded, fault-turned, dead-turned, path-turned, value-read, along-some, along-none, count-some, count-none, same-records}
 use Rattle.readers.specs.declared.FileRead.the-variants as read
 use Rattle.writers.specs.declared.FileWritten.the-variants as written
 
-number-unchanged : (v : ℕ) (before after : List ℕ) → v < 16384
+number-unchanged : (v : ℕ) (before after : List ℕ) → v < 2097152
     → number-at (before ++ (bytes-of v ++ after)) (length before) ≡ Read v (length (before ++ bytes-of v))
 number-unchanged v before after h = read-written before v after h ∙ ap (λ (k : ℕ). Read v k) (sym (length-append before (bytes-of v)))
 
@@ -187,13 +192,13 @@ module _ (kind : Record) (n m : ℕ) where
       (omega arith) (λ j q i l. let o : q ≡ j = omega arith in rw o (f j (omega arith))) in
       record { last = w .last; records-read = w .read }
 
--- The file of an accepted buffer is read as that buffer.
-module _ (kind : Kind) (n m : ℕ) (b : List ℕ) where
-  abbrev file : List ℕ
-  file = file-bytes kind n m b
-
+-- A file of an accepted buffer, with whatever bytes after its first list.
+module _ (kind : Kind) (n m : ℕ) (b rest : List ℕ) where
   abbrev first : Record
   first = first-list kind
+
+  abbrev file : List ℕ
+  file = bytes-of n ++ (bytes-of m ++ (list-bytes first b ++ rest))
 
   abbrev tally : List ℕ
   tally = bytes-of (record-count first b)
@@ -205,37 +210,32 @@ module _ (kind : Kind) (n m : ℕ) (b : List ℕ) where
   abbrev listed : List ℕ
   listed = front ++ records-of first b
 
-  after-rows : file ≡ bytes-of n ++ (bytes-of m ++ (list-bytes first b ++ second-list kind b))
-  unfolding file-bytes
-  after-rows = refl
-
-  after-columns : file ≡ (bytes-of n ++ bytes-of m) ++ (tally ++ (records-of first b ++ second-list kind b))
+  after-columns : file ≡ (bytes-of n ++ bytes-of m) ++ (tally ++ (records-of first b ++ rest))
   after-columns =
-      after-rows
-      ∙ sym (append-assoc (bytes-of n) (bytes-of m) (list-bytes first b ++ second-list kind b))
-      ∙ ap (λ (l : List ℕ). (bytes-of n ++ bytes-of m) ++ l) (append-assoc tally (records-of first b) (second-list kind b))
+      sym (append-assoc (bytes-of n) (bytes-of m) (list-bytes first b ++ rest))
+      ∙ ap (λ (l : List ℕ). (bytes-of n ++ bytes-of m) ++ l) (append-assoc tally (records-of first b) (rest))
 
-  after-tally : file ≡ front ++ (records-of first b ++ second-list kind b)
+  after-tally : file ≡ front ++ (records-of first b ++ rest)
   after-tally = after-columns ∙ sym (append-assoc (bytes-of n ++ bytes-of m) tally _)
 
-  after-list : file ≡ listed ++ second-list kind b
-  after-list = after-tally ∙ sym (append-assoc front (records-of first b) (second-list kind b))
+  after-list : file ≡ listed ++ rest
+  after-list = after-tally ∙ sym (append-assoc front (records-of first b) (rest))
 
-  ends-listed : second-list kind b ≡ [] → length file ≤ length listed
-  ends-listed e = omega (arith, ap length after-list, length-append listed (second-list kind b), ap length e)
+  ends-listed : rest ≡ [] → length file ≤ length listed
+  ends-listed e = omega (arith, ap length after-list, length-append listed (rest), ap length e)
 
   module _ (p : Passed kind n m b) where
-    few : (r : Record) → record-count r b < 16384
+    few : (r : Record) → record-count r b < 2097152
     unfolding record-count
     few r = let l : length b ≡ 1024 = p .is-long in omega (arith, positions-short (recorded r) b)
 
     rows-read : number-at file 0 ≡ Read n (length (bytes-of n))
     rows-read =
-        read-at file [] _ n 0 (length (bytes-of n)) after-rows refl (omega arith) (omega (arith, p .sizes .rows-high))
+        read-at file [] _ n 0 (length (bytes-of n)) refl refl (omega arith) (omega (arith, p .sizes .rows-high))
 
     columns-read : number-at file (length (bytes-of n)) ≡ Read m (length (bytes-of n ++ bytes-of m))
     columns-read =
-        read-at file (bytes-of n) _ m _ _ after-rows refl (length-append (bytes-of n) (bytes-of m))
+        read-at file (bytes-of n) _ m _ _ refl refl (length-append (bytes-of n) (bytes-of m))
         (omega (arith, p .sizes .columns-high))
 
     tally-read : number-at file (length (bytes-of n ++ bytes-of m)) ≡ Read (record-count first b) (length front)
@@ -257,11 +257,11 @@ module _ (kind : Kind) (n m : ℕ) (b : List ℕ) where
 
     -- the file, from its lists: after the first the buffer is c
     lists-taken :
-        (c : List ℕ) (more : ℕ) →
+        (c : List ℕ) (more u : ℕ) →
         List-taken first file n m (record-count first b) (length front) (length listed) (blank kind n m) c →
-        Rest-taken kind file n m (length listed) c b more →
-        File-taken kind file b (record { rows = n; columns = m; count = record-count first b + more })
-    lists-taken c more f t =
+        Rest-taken kind file n m (length listed) c b more u →
+        File-taken kind file b (record { rows = n; columns = m; count = record-count first b + more }) u
+    lists-taken c more u f w =
         record {
           second = length (bytes-of n);
           third = length (bytes-of n ++ bytes-of m);
@@ -274,12 +274,15 @@ module _ (kind : Kind) (n m : ℕ) (b : List ℕ) where
           columns-read = size-good file _ m _ columns-read (sizes .1);
           count-read = tally-read;
           first-read = f;
-          rest-read = t;
+          rest-read = w;
           both = refl;
         }
 
 -- The first list of a map leaves its dead processors healthy, and the second marks them.
 module _ (n m : ℕ) (b : List ℕ) (p : Passed Map n m b) where
+  abbrev second : List ℕ
+  second = rest-bytes Map b 0
+
   abbrev faults : List ℕ
   faults = buffer (λ q. alive (getD b q 0))
 
@@ -290,7 +293,7 @@ module _ (n m : ℕ) (b : List ℕ) (p : Passed Map n m b) where
   faults-long = tabulate-length (λ q. alive (getD b q 0)) 1024
 
   marks : (q : ℕ) → q < 1024 → allowed n m q (getD b q 0) ≡ true
-  marks q l = accepted-not _ 3 q 0 (passes Map n m b p q l)
+  marks q l = accepted-not _ 3 q 0 (passes Map n m b second p q l)
 
   same-faults : (record-count Fault faults ≡ record-count Fault b) × (records-of Fault faults ≡ records-of Fault b)
   same-faults =
@@ -301,16 +304,16 @@ module _ (n m : ℕ) (b : List ℕ) (p : Passed Map n m b) where
       (λ d. inl (rw d refl))))
 
   abbrev ahead : List ℕ
-  ahead = listed Map n m b
+  ahead = listed Map n m b second
 
   abbrev whole : List ℕ
-  whole = file-bytes Map n m b
+  whole = file Map n m b second
 
-  faults-read : List-taken Fault whole n m (record-count Fault b) (length (front Map n m b)) (length ahead) (blank Map n m) faults
+  faults-read : List-taken Fault whole n m (record-count Fault b) (length (front Map n m b second)) (length ahead) (blank Map n m) faults
   faults-read =
       rw (same-faults .0, same-faults .1) at
-      (list-read Fault n m (small Map n m b p) whole (front Map n m b) (second-list Map b) (blank Map n m) faults
-      (rw (same-faults .1) (after-tally Map n m b)) (blank-length Map n m) faults-long
+      (list-read Fault n m (small Map n m b second p) whole (front Map n m b second) (second) (blank Map n m) faults
+      (rw (same-faults .1) (after-tally Map n m b second)) (blank-length Map n m) faults-long
       (λ q l. rw (blank-at Map n m q l, faults-at q l) (fault-turned n m q (getD b q 0) (marks q l))))
 
   -- the second list, in any file where it stands last
@@ -319,94 +322,184 @@ module _ (n m : ℕ) (b : List ℕ) (p : Passed Map n m b) where
       s ≡ before ++ (records-of Dead b ++ []) →
       List-taken Dead s n m (record-count Dead b) (length before) (length (before ++ records-of Dead b)) faults b
   dead-read s before e =
-      list-read Dead n m (small Map n m b p) s before [] faults b e faults-long (p .is-long)
+      list-read Dead n m (small Map n m b second p) s before [] faults b e faults-long (p .is-long)
       (λ q l. rw (faults-at q l) (dead-turned n m q (getD b q 0) (marks q l)))
 
   no-dead : record-count Dead b ≡ 0 → Ended whole (length ahead) faults b (record-count Dead b)
   no-dead z =
-      let t = dead-read (records-of Dead b ++ []) [] refl in
-      let e = sym (none-left Dead _ n m 0 0 faults) ∙ (rw z at (t .records-read)) in
-      record { ends = ends-listed Map n m b (rw z refl); same = ap (λ (x : Step × List ℕ). x .1) e; none = z }
+      let d = dead-read (records-of Dead b ++ []) [] refl in
+      let e = sym (none-left Dead _ n m 0 0 faults) ∙ (rw z at (d .records-read)) in
+      record { ends = ends-listed Map n m b second (rw z refl); same = ap (λ (x : Step × List ℕ). x .1) e; none = z }
 
   some-dead : (record-count Dead b ≡ 0 → ⊥) → Second-taken whole n m (length ahead) faults b (record-count Dead b)
   some-dead z =
       let tally : List ℕ = bytes-of (record-count Dead b) in
       let e : whole ≡ ahead ++ (tally ++ records-of Dead b) =
-      after-list Map n m b ∙ ap (λ (l : List ℕ). ahead ++ l) (dead-some (record-count Dead b) b z) in
+      after-list Map n m b second ∙ ap (λ (l : List ℕ). ahead ++ l) (dead-some (record-count Dead b) b z) in
       let f = e ∙ sym (append-assoc ahead tally (records-of Dead b)) in
       record {
         start = length (ahead ++ tally);
         end = length ((ahead ++ tally) ++ records-of Dead b);
         count-read =
-            read-at whole ahead (records-of Dead b) (record-count Dead b) _ _ e refl (length-append ahead tally) (few Map n m b p Dead);
+            read-at whole ahead (records-of Dead b) (record-count Dead b) _ _ e refl (length-append ahead tally) (few Map n m b second p Dead);
         some = z;
         list-read = dead-read whole (ahead ++ tally) (f ∙ ap (λ (l : List ℕ). (ahead ++ tally) ++ l) (sym (append-nil (records-of Dead b))));
         ends = omega (arith, ap length f);
       }
 
+-- the paths of a plan are read, whatever follows them
+paths-read :
+    (n m : ℕ) (b rest : List ℕ) (p : Passed Plan n m b) →
+    List-taken Path (file Plan n m b rest) n m (record-count Path b) (length (front Plan n m b rest)) (length (listed Plan n m b rest))
+    (blank Plan n m) b
+paths-read n m b rest p =
+    list-read Path n m (small Plan n m b rest p) (file Plan n m b rest) (front Plan n m b rest) rest (blank Plan n m) b
+    (after-tally Plan n m b rest) (blank-length Plan n m) (p .is-long)
+    (λ q l. rw (blank-at Plan n m q l) (path-turned n m q (getD b q 0) (passes Plan n m b rest p q l)))
+
+-- T that stands after them is read
+trials-read :
+    (n m t : ℕ) (b after : List ℕ) →
+    trials-test Plan t ≡ Accepted →
+    number-at (file Plan n m b (bytes-of t ++ after)) (length (listed Plan n m b (bytes-of t ++ after)))
+    ≡ Read t (length (listed Plan n m b (bytes-of t ++ after)) + length (bytes-of t))
+trials-read n m t b after h =
+    read-at _ (listed Plan n m b (bytes-of t ++ after)) after t _ _ (after-list Plan n m b (bytes-of t ++ after)) refl refl (trials-low t h)
+
+-- The file of an accepted buffer is read as that buffer.
 file-is-taken :
-    (kind : Kind) (n m : ℕ) (b : List ℕ) (p : Passed kind n m b) →
-    File-taken kind (file-bytes kind n m b) b (record { rows = n; columns = m; count = file-count kind b })
-file-is-taken Map n m b p =
-    lists-taken Map n m b p (faults n m b p) (record-count Dead b) (faults-read n m b p)
-    (by-eq (record-count Dead b) 0 (λ z. inl (no-dead n m b p z)) (λ z. inr (some-dead n m b p z)))
-file-is-taken Plan n m b p =
+    (kind : Kind) (n m : ℕ) (b : List ℕ) (t : ℕ) (p : Passed kind n m b) →
+    trials-test kind t ≡ Accepted →
+    File-taken kind (file-bytes kind n m b t) b (record { rows = n; columns = m; count = file-count kind b }) (file-trials kind t)
+unfolding file-bytes
+file-is-taken Map n m b t p h =
+    lists-taken Map n m b (rest-bytes Map b 0) p (faults n m b p) (record-count Dead b) 0 (faults-read n m b p)
+    (by-eq (record-count Dead b) 0 (λ z. inl (no-dead n m b p z)) (λ z. inr (some-dead n m b p z)), refl)
+file-is-taken Plan n m b t p h =
+    let ahead : List ℕ = listed Plan n m b (bytes-of t) in
     rw (add-zero (record-count Path b)) at
-    (lists-taken Plan n m b p b 0
-    (list-read Path n m (small Plan n m b p) (file Plan n m b) (front Plan n m b) [] (blank Plan n m) b (after-tally Plan n m b)
-    (blank-length Plan n m) (p .is-long)
-    (λ q l. rw (blank-at Plan n m q l) (path-turned n m q (getD b q 0) (passes Plan n m b p q l))))
-    (record { ends = ends-listed Plan n m b refl; same = refl; none = refl }))
+    (lists-taken Plan n m b (bytes-of t) p b 0 t (paths-read n m b (bytes-of t) p)
+    (record {
+      end = length ahead + length (bytes-of t);
+      trials-read = rw (append-nil (bytes-of t)) at (trials-read n m t b [] h);
+      ended =
+          record {
+            ends = omega (arith, ap length (after-list Plan n m b (bytes-of t)), length-append ahead (bytes-of t));
+            same = refl;
+            none = refl;
+          };
+    }))
 
-module _ (kind : Kind) (n m : ℕ) where
-  -- What the writer accepts is the file, and the file buffer begins with it.
-  accepted :
-      (k : ℕ) (b out lent : List ℕ) →
-      length lent ≡ 1024 →
-      buffer-test kind n m b ≡ Accepted →
-      write-file kind n m b out .0 ≡ written.Length k →
-      read-file kind (take k (write-file kind n m b out .1)) lent
-      ≡ (read.File (record { rows = n; columns = m; count = file-count kind b }), b)
-  accepted k b out lent w a h =
-      let f : List ℕ = file-bytes kind n m b in
-      by-lt (length out) (length f)
-      (λ l.
-      let e = file-accepted kind n m b out a ∙ put-short f out l in
-      let z : _≡_ {A = ℕ} 0 1 = cc (sym h ∙ ap (λ (x : FileWritten × List ℕ). x .0) e) in
-      absurd (omega arith))
-      (λ l.
-      let e = file-accepted kind n m b out a ∙ put-whole f out l in
-      let j : k ≡ length f = cc (sym h ∙ ap (λ (x : FileWritten × List ℕ). x .0) e) in
-      ap (λ (s : List ℕ). read-file kind s lent) (rw (e, j) (take-append-seam f (drop (length f) out)))
-      ∙ taken-file kind f b _ (file-is-taken kind n m b (passed kind n m b a)) lent w)
+-- A plan file that ends before T, or goes on after it.
+module _ (n m : ℕ) (b : List ℕ) (p : Passed Plan n m b) (lent : List ℕ) (w : length lent ≡ 1024) where
+  up-to-trials :
+      (rest : List ℕ) →
+      read-plan (file Plan n m b rest) lent
+      ≡ trials-at (file Plan n m b rest) (record { rows = n; columns = m; count = record-count Path b }) lent
+      (Next (length (listed Plan n m b rest)) (paths-read n m b rest p .last), b)
+  up-to-trials rest =
+      let s : List ℕ = file Plan n m b rest in
+      head-read Plan s lent w n _ (size-good s 0 n _ (rows-read Plan n m b rest p) (sizes Plan n m b rest p .0)) m _
+      (size-good s _ m _ (columns-read Plan n m b rest p) (sizes Plan n m b rest p .1)) (record-count Path b) _
+      (tally-read Plan n m b rest p)
+      ∙ ap (rest-at Plan s (record { rows = n; columns = m; count = record-count Path b }) lent) (paths-read n m b rest p .records-read)
 
-  file-unchanged :
-      (k : ℕ) (b out lent : List ℕ) →
-      length lent ≡ 1024 →
-      write-file kind n m b out .0 ≡ written.Length k →
-      read-file kind (take k (write-file kind n m b out .1)) lent
-      ≡ (read.File (record { rows = n; columns = m; count = file-count kind b }), b)
-  file-unchanged k b out lent w h = by-test (buffer-test kind n m b) refl
-    where
-      by-test :
-          (v : Verdict) →
-          buffer-test kind n m b ≡ v →
-          read-file kind (take k (write-file kind n m b out .1)) lent
-          ≡ (read.File (record { rows = n; columns = m; count = file-count kind b }), b)
-      by-test Accepted a = accepted k b out lent w a h
-      by-test (Refused r) a =
-          let z : _≡_ {A = ℕ} 0 1 = cc (sym h ∙ ap (λ (x : FileWritten × List ℕ). x .0) (file-refused kind n m b out r a)) in
-          absurd (omega arith)
+  without-trials : read-plan (file Plan n m b []) lent ≡ (read.Refused (refusal 8 (length (file Plan n m b [])) 0), lent)
+  without-trials =
+      let s : List ℕ = file Plan n m b [] in
+      let end : ℕ = length (listed Plan n m b []) in
+      up-to-trials []
+      ∙ trials-cut s _ lent end (paths-read n m b [] p .last) b _ (ended s end 2 end (ends-listed Plan n m b [] refl))
 
-file-written : (kind : Kind) (n m : ℕ) (b out : List ℕ) → buffer-test kind n m b ≡ Accepted
-    → length (file-bytes kind n m b) ≤ length out → write-file kind n m b out .0 ≡ written.Length (length (file-bytes kind n m b))
-file-written kind n m b out a l =
-    ap (λ (x : FileWritten × List ℕ). x .0) (file-accepted kind n m b out a ∙ put-whole (file-bytes kind n m b) out l)
+  after-trials :
+      (t x : ℕ) (xs : List ℕ) →
+      trials-test Plan t ≡ Accepted →
+      read-plan (file Plan n m b (bytes-of t ++ (x ∷ xs))) lent
+      ≡ (read.Refused (refusal 12 (length (listed Plan n m b []) + length (bytes-of t)) 0), lent)
+  after-trials t x xs h =
+      let rest : List ℕ = bytes-of t ++ (x ∷ xs) in
+      let s : List ℕ = file Plan n m b rest in
+      let end : ℕ = length (listed Plan n m b rest) + length (bytes-of t) in
+      let l : end < length s =
+      omega (
+        arith,
+        ap length (after-list Plan n m b rest),
+        length-append (listed Plan n m b rest) rest,
+        length-append (bytes-of t) (x ∷ xs),
+      ) in
+      up-to-trials rest
+      ∙ trials-some s _ lent _ (paths-read n m b rest p .last) b t end (trials-read n m t b (x ∷ xs) h)
+      ∙ whole-more s _ t lent end (paths-read n m b rest p .last) b refl l
+
+pub plan-endings : Plan-endings
+unfolding file-bytes
+plan-endings =
+    record {
+      without-trials = λ n m b lent a w.
+          let l = list-bytes Path b in
+          let e : bytes-of n ++ (bytes-of m ++ (l ++ [])) ≡ bytes-of n ++ (bytes-of m ++ l) =
+          ap (λ (z : List ℕ). bytes-of n ++ (bytes-of m ++ z)) (append-nil l) in
+          rw e at (without-trials n m b (passed Plan n m b a) lent w);
+      after-trials = λ n m t x xs b lent a c w.
+          let l = list-bytes Path b in
+          let e : (bytes-of n ++ (bytes-of m ++ (l ++ bytes-of t))) ++ (x ∷ xs) ≡ file Plan n m b (bytes-of t ++ (x ∷ xs)) =
+          append-assoc (bytes-of n) (bytes-of m ++ (l ++ bytes-of t)) (x ∷ xs)
+          ∙ ap (λ (z : List ℕ). bytes-of n ++ z)
+          (append-assoc (bytes-of m) (l ++ bytes-of t) (x ∷ xs)
+          ∙ ap (λ (z : List ℕ). bytes-of m ++ z) (append-assoc l (bytes-of t) (x ∷ xs))) in
+          let k : length (listed Plan n m b []) + length (bytes-of t) ≡ length (bytes-of n ++ (bytes-of m ++ (l ++ bytes-of t))) =
+          sym (ap length (after-list Plan n m b (bytes-of t)) ∙ length-append (listed Plan n m b []) (bytes-of t)) in
+          ap (λ (s : List ℕ). read-plan s lent) e
+          ∙ after-trials n m b (passed Plan n m b a) lent w t x xs c
+          ∙ ap (λ (z : ℕ). (read.Refused (refusal 12 z 0), lent)) k;
+    }
+
+module _ (kind : Kind) (n m t : ℕ) where
+  abbrev Unchanged : ℕ → List ℕ → List ℕ → List ℕ → Type 0
+  Unchanged k b out lent =
+      read-file kind (take k (write-file kind n m b t out .1)) lent
+      ≡ (read.File (record { rows = n; columns = m; count = file-count kind b }) (file-trials kind t), b)
+
+  module _ (k : ℕ) (b out lent : List ℕ) (w : length lent ≡ 1024) (h : write-file kind n m b t out .0 ≡ written.Length k) where
+    -- a writer that answers a length refuses nothing
+    no : {A : Type 0} {r : Refusal} {d : List ℕ} → write-file kind n m b t out ≡ (written.Refused r, d) → A
+    no e = absurd (let z : _≡_ {A = ℕ} 0 1 = cc (sym h ∙ ap (λ (x : FileWritten × List ℕ). x .0) e) in omega arith)
+
+    -- What the writer accepts is the file, and the file buffer begins with it.
+    accepted : buffer-test kind n m b ≡ Accepted → trials-test kind t ≡ Accepted → Unchanged k b out lent
+    accepted a c =
+        let f : List ℕ = file-bytes kind n m b t in
+        by-lt (length out) (length f)
+        (λ l. no (file-recorded kind n m b t out a c ∙ put-short f out l))
+        (λ l.
+        let e = file-recorded kind n m b t out a c ∙ put-whole f out l in
+        let j : k ≡ length f = cc (sym h ∙ ap (λ (x : FileWritten × List ℕ). x .0) e) in
+        ap (λ (s : List ℕ). read-file kind s lent) (rw (e, j) (take-append-seam f (drop (length f) out)))
+        ∙ taken-file kind f b _ _ (file-is-taken kind n m b t (passed kind n m b a) c) lent w)
+
+    by-trials : buffer-test kind n m b ≡ Accepted → (v : Verdict) → trials-test kind t ≡ v → Unchanged k b out lent
+    by-trials a Accepted c = accepted a c
+    by-trials a (Refused r) c = no {r = r} {d = out} (file-accepted kind n m b t out a ∙ rw c refl)
+
+    by-buffer : (v : Verdict) → buffer-test kind n m b ≡ v → Unchanged k b out lent
+    by-buffer Accepted a = by-trials a (trials-test kind t) refl
+    by-buffer (Refused r) a = no (file-refused kind n m b t out r a)
+
+    file-unchanged : Unchanged k b out lent
+    file-unchanged = by-buffer (buffer-test kind n m b) refl
+
+file-written : (kind : Kind) (n m t : ℕ) (b out : List ℕ) → buffer-test kind n m b ≡ Accepted → trials-test kind t ≡ Accepted
+    → length (file-bytes kind n m b t) ≤ length out
+    → write-file kind n m b t out .0 ≡ written.Length (length (file-bytes kind n m b t))
+file-written kind n m t b out a c l =
+    ap (λ (x : FileWritten × List ℕ). x .0) (file-recorded kind n m b t out a c ∙ put-whole (file-bytes kind n m b t) out l)
 
 pub round-trip : Round-trip
 round-trip =
     record {
       number-unchanged = number-unchanged;
       file-written = file-written;
-      file-unchanged = λ kind n m k b out lent w h. file-unchanged kind n m k b out lent w h;
+      file-unchanged = λ kind n m t k b out lent w h. file-unchanged kind n m t k b out lent w h;
+      map-unchanged = λ n m k grid out lent w h.
+          ap (λ (x : FileRead × List ℕ). (map-of (x .0), x .1)) (file-unchanged Map n m 0 k grid out lent w h);
     }

@@ -20,20 +20,21 @@ use Rattle.array.proofs.Places.{sized, inner-stands}
 use Rattle.array.proofs.Verdicts.{false-accepted, accept-both}
 use Rattle.array.proofs.Scans.{buffer-scan, scan-all}
 use Rattle.formats.specs.Number.{Bytes, bytes-of}
-use Rattle.formats.specs.Records.{recorded, record-bytes, records-along, record-count, first-list, second-list, file-count, blank}
+use Rattle.formats.specs.Records.{recorded, record-bytes, records-along, record-count, first-list, rest-bytes, file-count, blank}
 use Rattle.formats.specs.declared.Number.the-variants.{Read}
 use Rattle.formats.specs.declared.Kind.{Kind}
 use Rattle.formats.specs.declared.Kind.the-variants.{Map, Plan}
 use Rattle.formats.specs.declared.Record.{Record}
 use Rattle.formats.specs.declared.Record.the-variants.{Fault, Dead, Path}
 use Rattle.formats.proofs.Records.{position-only, no-records, records-set, Alike, count-is}
-use Rattle.formats.proofs.Stands.{number-stands}
+use Rattle.formats.proofs.Stands.{number-stands, number-below}
 use Rattle.readers.specs.Parts.{blank-mark, stands-at, repeated, value-at, is-value}
 use Rattle.readers.specs.declared.Head.{Head}
 use Rattle.readers.proofs.Cases.{blank-length, blank-at, value-low}
-use Rattle.readers.proofs.Taken.{Taken, List-taken, Ended, Rest-taken, File-taken, file-taken, sizes-taken, list-keeps}
+use Rattle.readers.proofs.Taken.{Taken, List-taken, Trials-taken, Rest-taken, File-taken, file-taken, sizes-taken, list-keeps}
+use Rattle.writers.specs.Writing.{trials-test}
 use Rattle.writers.specs.Parts.{pair-bytes, value-bytes, records-of, dead-count}
-use Rattle.writers.proofs.Accepted.{element-test, tests-are}
+use Rattle.writers.proofs.Accepted.{element-test, tests-are, low-trials}
 use Rattle.writers.proofs.Records.{record-is, dead-some}
 use Rattle.files.specs.Sound.{Sound-reading}
 use Rattle.files.proofs.Elements.{file-of, blank-free, free-none, value-recorded, same-records}
@@ -211,22 +212,18 @@ blank-held kind s n m start =
 
 -- the buffer of an accepted file: its elements pass, and its lists have the counts that were read and stand where they were
 -- read
-pub record Lists (kind : Kind) (s : List ℕ) (n m start count end more : ℕ) (b : List ℕ) : Type 0 where
+pub record Lists (kind : Kind) (s : List ℕ) (n m start count end more t : ℕ) (b : List ℕ) : Type 0 where
   pub is-long : length b ≡ 1024
   pub passes : (p : ℕ) → p < 1024 → element-test kind n m p (getD b p 0) ≡ Accepted
   pub first-counted : record-count (first-list kind) b ≡ count
   pub dead-counted : dead-count kind b ≡ more
   pub first-stands : Bytes s → records-of (first-list kind) b ++ drop end s ≡ drop start s
-  pub second-stands : Bytes s → second-list kind b ≡ drop end s
+  pub rest-stands : Bytes s → rest-bytes kind b t ≡ drop end s
+  pub trials-fit : Bytes s → trials-test kind t ≡ Accepted
 
-module _ (s : List ℕ) (n m : ℕ) (small : (n ≤ 30) × (m ≤ 30)) (start count end more : ℕ) (first b : List ℕ) where
-  -- after the first list, where the file ends
-  ended-lists :
-      (kind : Kind) → Ended s end first b more → Lists kind s n m start count end 0 first → Lists kind s n m start count end more b
-  ended-lists kind t h = rw (t .none, sym (t .same)) h
-
-  map-lists : List-taken Fault s n m count start end (blank Map n m) first → Rest-taken Map s n m end first b more
-      → Lists Map s n m start count end more b
+module _ (s : List ℕ) (n m : ℕ) (small : (n ≤ 30) × (m ≤ 30)) (start count end more t : ℕ) (first b : List ℕ) where
+  map-lists : List-taken Fault s n m count start end (blank Map n m) first → Rest-taken Map s n m end first b more t
+      → Lists Map s n m start count end more t b
   map-lists f = by-rest
     where
       h : (length first ≡ 1024) × Held Fault s n m start (0 + count) end (f .last) first
@@ -241,20 +238,21 @@ module _ (s : List ℕ) (n m : ℕ) (small : (n ≤ 30) × (m ≤ 30)) (start co
       fresh : (at : ℕ) → Held Dead s n m at 0 at 0 first
       fresh at = fresh-held Dead s n m at first (h .0) (h .1 .passes) none
 
-      by-rest : Rest-taken Map s n m end first b more → Lists Map s n m start count end more b
-      by-rest (inl t) =
-          ended-lists Map t
+      by-rest : Rest-taken Map s n m end first b more t → Lists Map s n m start count end more t b
+      by-rest (inl w, z) =
+          rw (w .none, sym (w .same))
           (record {
             is-long = h .0;
             passes = h .1 .passes;
             first-counted = h .1 .counted ∙ zero-add count;
             dead-counted = fresh end .counted;
             first-stands = h .1 .stands;
-            second-stands = λ bytes. rw (fresh end .counted) (sym (drop-of-length-le s (t .ends)));
+            rest-stands = λ bytes. rw (fresh end .counted) (sym (drop-of-length-le s (w .ends)));
+            trials-fit = λ bytes. refl;
           })
-      by-rest (inr t) =
-          let d = list-held Dead s n m small (h .0) (t .list-read) (fresh (t .start)) in
-          let e = same-records Fault first b (h .0) (d .0) (list-alike Dead s n m small (h .0) (t .list-read) Fault dead-fault) in
+      by-rest (inr w, z) =
+          let d = list-held Dead s n m small (h .0) (w .list-read) (fresh (w .start)) in
+          let e = same-records Fault first b (h .0) (d .0) (list-alike Dead s n m small (h .0) (w .list-read) Fault dead-fault) in
           let k : record-count Dead b ≡ more = d .1 .counted ∙ zero-add more in
           record {
             is-long = d .0;
@@ -262,41 +260,47 @@ module _ (s : List ℕ) (n m : ℕ) (small : (n ≤ 30) × (m ≤ 30)) (start co
             first-counted = sym (e .0) ∙ h .1 .counted ∙ zero-add count;
             dead-counted = k;
             first-stands = λ bytes. ap (λ (l : List ℕ). l ++ drop end s) (sym (e .1)) ∙ h .1 .stands bytes;
-            second-stands = λ bytes.
-                dead-some (record-count Dead b) b (λ z. t .some (sym k ∙ z))
+            rest-stands = λ bytes.
+                dead-some (record-count Dead b) b (λ z. w .some (sym k ∙ z))
                 ∙ ap (λ (j : ℕ). bytes-of j ++ records-of Dead b) k
                 ∙ ap (λ (l : List ℕ). bytes-of more ++ l)
                 (sym (append-nil (records-of Dead b))
-                ∙ ap (λ (l : List ℕ). records-of Dead b ++ l) (sym (drop-of-length-le s (t .ends)))
+                ∙ ap (λ (l : List ℕ). records-of Dead b ++ l) (sym (drop-of-length-le s (w .ends)))
                 ∙ d .1 .stands bytes)
-                ∙ sym (number-stands s bytes end more (t .start) (t .count-read));
+                ∙ sym (number-stands s bytes end more (w .start) (w .count-read));
+            trials-fit = λ bytes. refl;
           }
 
-  plan-lists : List-taken Path s n m count start end (blank Plan n m) first → Ended s end first b more
-      → Lists Plan s n m start count end more b
-  plan-lists f t =
+  plan-lists : List-taken Path s n m count start end (blank Plan n m) first → Trials-taken s end first b more t
+      → Lists Plan s n m start count end more t b
+  plan-lists f w =
       let h = list-held Path s n m small (blank-length Plan n m) f (blank-held Path s n m start) in
-      ended-lists Plan t
+      rw (w .ended .none, sym (w .ended .same))
       (record {
         is-long = h .0;
         passes = h .1 .passes;
         first-counted = h .1 .counted ∙ zero-add count;
         dead-counted = refl;
         first-stands = h .1 .stands;
-        second-stands = λ bytes. sym (drop-of-length-le s (t .ends));
+        rest-stands = λ bytes.
+            sym
+            (number-stands s bytes end t (w .end) (w .trials-read)
+            ∙ ap (λ (l : List ℕ). bytes-of t ++ l) (drop-of-length-le s (w .ended .ends))
+            ∙ append-nil (bytes-of t));
+        trials-fit = λ bytes. low-trials t (number-below s bytes end t (w .end) (w .trials-read));
       })
 
   lists : (kind : Kind) → List-taken (first-list kind) s n m count start end (blank kind n m) first
-      → Rest-taken kind s n m end first b more → Lists kind s n m start count end more b
-  lists Map f t = map-lists f t
-  lists Plan f t = plan-lists f t
+      → Rest-taken kind s n m end first b more t → Lists kind s n m start count end more t b
+  lists Map f w = map-lists f w
+  lists Plan f w = plan-lists f w
 
 pub lists-read :
-    (kind : Kind) (s b : List ℕ) (head : Head) (f : File-taken kind s b head) →
-    Lists kind s (head .rows) (head .columns) (f .start) (f .count) (f .end) (f .more) b
-lists-read kind s b head f =
-    let z = sized (head .rows) (head .columns) (sizes-taken kind s b head f) in
-    lists s (head .rows) (head .columns) (z .rows-high, z .columns-high) (f .start) (f .count) (f .end) (f .more) (f .first) b kind
+    (kind : Kind) (s b : List ℕ) (head : Head) (t : ℕ) (f : File-taken kind s b head t) →
+    Lists kind s (head .rows) (head .columns) (f .start) (f .count) (f .end) (f .more) t b
+lists-read kind s b head t f =
+    let z = sized (head .rows) (head .columns) (sizes-taken kind s b head t f) in
+    lists s (head .rows) (head .columns) (z .rows-high, z .columns-high) (f .start) (f .count) (f .end) (f .more) t (f .first) b kind
     (f .first-read) (f .rest-read)
 
 -- the count of both lists
@@ -305,14 +309,15 @@ count-both Map b = refl
 count-both Plan b = sym (add-zero (record-count Path b))
 
 pub sound-reading : Sound-reading
-sound-reading kind s lent b head q =
-    let f = file-taken kind s lent b head q in
-    let h = lists-read kind s b head f in
+sound-reading kind s lent b head t q =
+    let f = file-taken kind s lent b head t q in
+    let h = lists-read kind s b head t f in
     record {
       fit =
           tests-are kind (head .rows) (head .columns) b
-          ∙ accept-both (false-accepted 1 0 0 (ap not (sizes-taken kind s b head f)))
+          ∙ accept-both (false-accepted 1 0 0 (ap not (sizes-taken kind s b head t f)))
           (accept-both (false-accepted 2 0 0 (ap not (and-both _ _ (eq-eqb (length b) 1024 (h .is-long)) refl)))
           (scan-all (buffer-scan (element-test kind (head .rows) (head .columns)) b) (λ p l. h .passes p (omega (arith, h .is-long)))));
       counted = count-both kind b ∙ omega (arith, h .first-counted, h .dead-counted, f .both);
+      trials-fit = h .trials-fit;
     }

@@ -9,4 +9,5 @@ use Rattle.writers.specs.Writing as writing
 pub record Answers-kept : Type 0 where
   pub of-number : Loses-nothing number.told
   pub of-reader : Loses-nothing reading.told
+  pub of-map-reader : Loses-nothing reading.told-map
   pub of-writer : Loses-nothing writing.told

@@ -4,3 +4,4 @@ pub mod Trip
 pub mod Records
 pub mod Stands
 pub mod Numbered
+pub mod Runs

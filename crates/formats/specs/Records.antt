@@ -1,6 +1,6 @@
--- Document 01, "Files", and document 02, T-04: what the two kinds of file hold. Both begin with N and M. A map has a list of
--- its faults, by row and column, and a second one of its dead processors; a plan has a list of its paths, by row, column and
--- direction. Each list begins with its count. Assumes nothing.
+-- Document 01, "Files", and document 02, T-04 and T-06: what the two kinds of file hold. Both begin with N and M. A map has
+-- a list of its faults, by row and column, and a second one of its dead processors; a plan has a list of its paths, by row,
+-- column and direction, and then T, the trials on record. Each list begins with its count. Assumes nothing.
 use Prim.Native.Nat.{ℕ, suc, _+_}
 use mathlib.Core.Bool.{Bool, cond, not}
 use mathlib.Core.List.{List, [], _∷_, _++_}
@@ -57,16 +57,22 @@ abbrev pub first-list : Kind → Record
 first-list Map = Fault
 first-list Plan = Path
 
--- T-04: the second list of a map, which is there only if there is a dead processor
-abbrev pub second-list : Kind → List ℕ → List ℕ
-second-list Map grid = cond (eqb (record-count Dead grid) 0) [] (list-bytes Dead grid)
-second-list Plan directions = []
+-- What follows the first list. T-04: of a map the second list, which is there only if there is a dead processor. T-06: of
+-- a plan T, which is t.
+abbrev pub rest-bytes : Kind → List ℕ → ℕ → List ℕ
+rest-bytes Map grid t = cond (eqb (record-count Dead grid) 0) [] (list-bytes Dead grid)
+rest-bytes Plan directions t = bytes-of t
 
--- the bytes of a whole file: N, M and the lists
-unfoldable pub file-bytes : Kind → ℕ → ℕ → List ℕ → List ℕ
-file-bytes kind n m b = bytes-of n ++ (bytes-of m ++ (list-bytes (first-list kind) b ++ second-list kind b))
+-- the bytes of a whole file: N, M, the first list and the rest
+unfoldable pub file-bytes : Kind → ℕ → ℕ → List ℕ → ℕ → List ℕ
+file-bytes kind n m b t = bytes-of n ++ (bytes-of m ++ (list-bytes (first-list kind) b ++ rest-bytes kind b t))
 
 -- the count that its reader returns; T-04: that of a map covers both lists
 abbrev pub file-count : Kind → List ℕ → ℕ
 file-count Map grid = record-count Fault grid + record-count Dead grid
 file-count Plan directions = record-count Path directions
+
+-- T-06: the trials that its reader returns: those of a plan; a map has none, and 0 stands for them
+abbrev pub file-trials : Kind → ℕ → ℕ
+file-trials Map t = 0
+file-trials Plan t = t

@@ -3,7 +3,7 @@ use array::Refusal;
 ghost use mathlib.Core.Path.{_≡_};
 ghost use Prim.Native.Nat.{ℕ, _<_, _≤_};
 ghost use lib.ListN.{length};
-ghost use Rattle.formats.specs.Number.{told, number-at, bytes-of, refusal-of};
+ghost use Rattle.formats.specs.Number.{told, refused, groups-limit, Below, groups-at, number-at, bytes-of, refusal-of};
 ghost use Rattle.formats.specs.Parts.{Room, Wrote};
 ghost use Rattle.formats.specs.Records.{recorded, first-list};
 
@@ -33,38 +33,56 @@ fn wide(b: u8) -> u32
     b as u32
 }
 
-// The number that starts at an offset of a file, with the offset after it, or its refusal.
+// Inner part: the refusal of a number.
+fn refused(number: u8, place: usize) -> Number
+    ensures { λ r. ⌜ r ≡ refused number place ⌝ }
+{
+    Number::Refused(Refusal {
+        number,
+        place,
+        second: 0,
+    })
+}
+
+// Inner part: at most so many groups from an offset on, of a number that begins at `start`.
+fn read_groups(s: &[u8], start: usize, groups: usize, at: usize) -> Number
+    requires { ⌜ groups ≤ 3 ⌝ }
+    ensures { λ r. ⌜ (told r ≡ told (groups-at (now (s .entry)) start groups at)) × Below (groups-limit groups) r ⌝ }
+{
+    if groups == 0 {
+        return refused(9, start);
+    }
+    if s.len() <= at {
+        return refused(8, s.len());
+    }
+    let low = s[at];
+    if low < 128 {
+        return Number::Read(wide(low), at + 1);
+    }
+    let a = read_groups(s, start, groups - 1, at + 1);
+    let Number::Read(rest, next) = a else {
+        return a;
+    };
+    if rest == 0 {
+        return refused(9, start);
+    }
+    Number::Read(wide(low) - 128 + 128 * rest, next)
+}
+
+// The number that starts at an offset of a file, with the offset after it, or its refusal. Most numbers have one byte, so
+// that this case comes first.
 pub fn read_number(s: &[u8], at: usize) -> Number
     ensures { λ r. ⌜ told r ≡ told (number-at (now (s .entry)) at) ⌝ }
 {
     if s.len() <= at {
-        return Number::Refused(Refusal {
-            number: 8,
-            place: s.len(),
-            second: 0,
-        });
+        return refused(8, s.len());
     }
-    let low = s[at];
+    let first = s[at];
     let next = at + 1;
-    if low < 128 {
-        return Number::Read(wide(low), next);
+    if first < 128 {
+        return Number::Read(wide(first), next);
     }
-    if s.len() <= next {
-        return Number::Refused(Refusal {
-            number: 8,
-            place: s.len(),
-            second: 0,
-        });
-    }
-    let high = s[next];
-    if (128 <= high) | (high == 0) {
-        return Number::Refused(Refusal {
-            number: 9,
-            place: at,
-            second: 0,
-        });
-    }
-    Number::Read(wide(low) - 128 + 128 * wide(high), at + 2)
+    read_groups(s, at, 3, at)
 }
 
 // Inner part: the refusal of a number that is not read.
@@ -82,27 +100,32 @@ pub fn refusal_of(a: Number) -> Refusal
 }
 
 // Inner part: writes the bytes of a number at an offset and gives the offset after them.
-pub fn write_number(out: &mut [u8], at: usize, v: usize) -> usize
-    requires { ⌜ (v < 16384) × Room (now out) at (bytes-of v) ⌝ }
-    ensures { λ r. ⌜ Wrote (now (out .entry)) at (bytes-of v) r (now (out .exit)) ⌝ }
+pub fn write_number(out: &mut [u8], start: usize, v: usize) -> usize
+    requires { ⌜ (v < 2097152) × Room (now out) start (bytes-of v) ⌝ }
+    ensures { λ r. ⌜ Wrote (now (out .entry)) start (bytes-of v) r (now (out .exit)) ⌝ }
 {
-    if v < 128 {
-        out[at] = v as u8;
-        return at + 1;
+    let mut at = start;
+    let mut rest = v;
+    while 128 <= rest {
+        out[at] = (128 + rest % 128) as u8;
+        at += 1;
+        rest = rest / 128;
     }
-    out[at] = (128 + v % 128) as u8;
-    out[at + 1] = (v / 128) as u8;
-    at + 2
+    out[at] = rest as u8;
+    at + 1
 }
 
 // Inner part: how many bytes a number takes.
 pub fn number_length(v: usize) -> usize
-    ensures { λ r. ⌜ (r ≡ length (bytes-of v)) × (r ≤ 2) ⌝ }
+    ensures { λ r. ⌜ (r ≡ length (bytes-of v)) × (r ≤ 3) ⌝ }
 {
     if v < 128 {
         return 1;
     }
-    2
+    if v < 16384 {
+        return 2;
+    }
+    3
 }
 
 // Inner part: whether an element of a buffer has a record of a kind.

@@ -18,7 +18,7 @@ use Rattle.array.proofs.Fills.{tabulate-length}
 use Rattle.writers.specs.Writing.{room-test, put}
 use Rattle.writers.specs.declared.FileWritten.the-variants.{Length, Refused}
 use Rattle.writers.proofs.Accepted.{put-short, put-stored}
-use Rattle.writers.proofs.Runs.{Splits, Run, run-start}
+use Rattle.formats.proofs.Runs.{Splits, Run, run-start}
 use Rattle.grids.specs.Text.{text-length, text-byte, text, write-text}
 use Rattle.array.specs.declared.Verdict.the-variants as verdict
 

@@ -15,7 +15,7 @@ use Rattle.grids.specs.Text.{text, write-text}
 
 pub map-within : (n m : ℕ) (grid out : List ℕ) (r : FileWritten) (k : ℕ) → told r ≡ told (write-map n m grid out .0) → r ≡ Length k → k ≤ length out
 unfolding write-file
-map-within n m grid out r k e h = put-within (file-bytes Map n m grid) out r k h (buffer-test Map n m grid) e
+map-within n m grid out r k e h = put-within (file-bytes Map n m grid 0) out r k h (buffer-test Map n m grid) e
 
 pub text-within : (n m : ℕ) (grid out : List ℕ) (r : FileWritten) (k : ℕ) → told r ≡ told (write-text n m grid out .0) → r ≡ Length k → k ≤ length out
 text-within n m grid out r k e h = put-within (text n m grid) out r k h (well-formed n m grid) e

@@ -11,7 +11,7 @@ use lib.Dec.{ltb, eqb}
 use lib.ListN.{length, getD, set, drop, drop-of-length-le}
 use lib.Seq.{drop-cons}
 use Rattle.array.proofs.Bools.{or-false}
-use Rattle.writers.proofs.Runs.{Splits, Run, splits-all, run-start, run-room, run-step, run-end}
+use Rattle.formats.proofs.Runs.{Splits, Run, splits-all, run-start, run-room, run-step, run-end}
 use Rattle.listing.specs.Listing.{along, last-digit, digits}
 use Rattle.formats.specs.Parts.{Room, Wrote}
 

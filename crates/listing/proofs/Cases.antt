@@ -17,11 +17,11 @@ use Rattle.repair.specs.declared.Answer.the-variants as answer
 use Rattle.repair.specs.Operations as repair
 use Rattle.readers.specs.Reading.{read-map}
 use Rattle.readers.specs.declared.Head.{Head}
-use Rattle.readers.specs.declared.FileRead.{FileRead}
+use Rattle.readers.specs.declared.MapRead.{MapRead}
 use Rattle.readers.specs.Reading as reading
-use Rattle.readers.proofs.Answers.{read-kept}
-use Rattle.readers.specs.declared.FileRead.the-variants as reader
-use Rattle.writers.proofs.Runs.{Splits, splits}
+use Rattle.readers.proofs.Answers.{map-kept}
+use Rattle.readers.specs.declared.MapRead.the-variants as reader
+use Rattle.formats.proofs.Runs.{Splits, splits}
 use Rattle.listing.specs.Listing.{along, field, line, newline, fault-bytes, seat-bytes, letter-bytes, switch-line}
 use Rattle.listing.specs.Listing.{across-word, down-word, repaired-word, beyond-word, spent-word}
 use Rattle.listing.specs.Listing.{plan-lines, repair-lines, outcome-lines, decision-lines, refusal-line, head-line, limit}
@@ -103,12 +103,12 @@ module _ (pl : Planner) (head : Head) (grid : List ℕ) (r : Answer) {directions
   map-refused h = rw (answer-is, h) refl
 
 -- The reader answered r for a blank grid, and left grid′.
-module _ (pl : Planner) (s : List ℕ) (r : FileRead) {grid grid′ : List ℕ} (b : grid ≡ zeros)
-    (e : reading.told r ≡ reading.told (read-map s grid .0)) (d : grid′ ≡ read-map s grid .1) where
+module _ (pl : Planner) (s : List ℕ) (r : MapRead) {grid grid′ : List ℕ} (b : grid ≡ zeros)
+    (e : reading.told-map r ≡ reading.told-map (read-map s grid .0)) (d : grid′ ≡ read-map s grid .1) where
   read-is : read-map s zeros ≡ (r, grid′)
-  read-is = ap (λ (x : List ℕ). read-map s x) (sym b) ∙ sym (pair-is (read-map s grid) (read-kept r (read-map s grid .0) e) d)
+  read-is = ap (λ (x : List ℕ). read-map s x) (sym b) ∙ sym (pair-is (read-map s grid) (map-kept r (read-map s grid .0) e) d)
     where
-      pair-is : (x : FileRead × List ℕ) → r ≡ x .0 → grid′ ≡ x .1 → (r, grid′) ≡ x
+      pair-is : (x : MapRead × List ℕ) → r ≡ x .0 → grid′ ≡ x .1 → (r, grid′) ≡ x
       pair-is (y, z) h g = rw (h, g) refl
 
   pub file-read : {head : Head} → r ≡ reader.File head → listing pl s ≡ planned-lines pl head grid′

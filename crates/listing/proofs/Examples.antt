@@ -15,7 +15,7 @@ use Rattle.track.specs.Placement.{through, placement}
 use Rattle.track.specs.Letters.{letters, entry, letter, across-letters, down-letters}
 use Rattle.repair.specs.Operations.{plan-by, directions-by}
 use Rattle.repair.specs.Operations.{place-cells, places-after, route-switches, across-after, down-after}
-use Rattle.formats.specs.Number.{number-at, size-at}
+use Rattle.formats.specs.Number.{groups-at, size-at}
 use Rattle.formats.specs.Records.{healthy-grid}
 use Rattle.readers.specs.Reading.{record-at, records-at, read-file}
 use Rattle.listing.specs.Listing.{along, digits, line, path-line, cell-line, switch-line, plan-lines, repair-lines, outcome-lines, decision-lines, refusal-line, head-line, map-lines, file-lines, listing}
@@ -33,7 +33,7 @@ unfolding
     offer trials clear-of keeps searched planned outcome direction-of directions-written
     pick-along peel left-on peeled-on quick-planned
     through placement letters entry letter across-letters down-letters
-    number-at size-at healthy-grid record-at records-at read-file
+    groups-at size-at healthy-grid record-at records-at read-file
 examples =
     record {
       zero-is = refl;

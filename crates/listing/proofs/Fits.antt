@@ -31,12 +31,12 @@ use Rattle.repair.specs.declared.Answer.{Answer}
 use Rattle.repair.proofs.Cells.{cell-low, placement-at, seat-low}
 use Rattle.readers.specs.Reading.{read-map}
 use Rattle.readers.specs.declared.Head.{Head}
-use Rattle.readers.specs.declared.FileRead.{FileRead}
+use Rattle.readers.specs.declared.MapRead.{MapRead}
 use Rattle.listing.specs.Listing.{along, digits, field, line, newline, map-word, repaired-word, beyond-word, spent-word, refused-word, path-word, cell-word, across-word, down-word, direction-letter, path-line, cell-line, fault-bytes, seat-bytes, letter-bytes, switch-line, plan-lines, repair-lines, outcome-lines, refusal-line, head-line, limit, map-lines, file-lines, listing, Listing-fits}
 use Rattle.listing.specs.Listing.{decision-lines, answer-lines, left-by-planner}
 use Rattle.listing.proofs.Buffers.{places-long, across-long, down-long}
 use Rattle.repair.specs.declared.Answer.the-variants as answer
-use Rattle.readers.specs.declared.FileRead.the-variants as reader
+use Rattle.readers.specs.declared.MapRead.the-variants as reader
 
 -- at most k bytes at a position, and none at those below z
 abbrev Few : ℕ → ℕ → ℕ → List ℕ → Type 0
@@ -298,7 +298,7 @@ module _ (pl : Planner) (head : Head) (grid : List ℕ) where
   map-short (answer.Decided d) h = accepted-short (answer.Decided d) h refl
   map-short (answer.Refused r) h = omega (arith, refusal-short r)
 
-file-short : (pl : Planner) (x : FileRead × List ℕ) → length (file-lines pl x) ≤ 32768
+file-short : (pl : Planner) (x : MapRead × List ℕ) → length (file-lines pl x) ≤ 32768
 unfolding file-lines
 file-short pl (reader.File head, grid) =
     map-short pl head grid (plan-by pl (head .rows) (head .columns) grid zeros limit) refl

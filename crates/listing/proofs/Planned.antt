@@ -17,6 +17,7 @@ use Rattle.repair.specs.declared.Planner.{Planner}
 use Rattle.repair.specs.declared.Planner.the-variants.{Trials, Quick, Exact}
 use Rattle.readers.specs.declared.Head.{Head}
 use Rattle.formats.specs.declared.Kind.the-variants.{Map}
+use Rattle.readers.proofs.Taken.{map-read}
 use Rattle.writers.specs.Writing.{buffer-test}
 use Rattle.files.proofs.Sound.{sound-reading}
 use Rattle.listing.specs.Listing.{limit, head-line, answer-lines, left-by-planner, map-lines, file-lines, listing, Maps-listed}
@@ -55,7 +56,7 @@ unfolding listing file-lines
 maps-listed pl s grid head q =
     let n = head .rows in
     let m = head .columns in
-    let t = tested n m grid (formed-map n m grid (sound-reading Map s zeros grid head q .fit)) in
+    let t = tested n m grid (formed-map n m grid (sound-reading Map s zeros grid head 0 (map-read s zeros grid head q) .fit)) in
     rw (q, answered pl n m grid t)
     (lines-are pl head grid limit (planned-by pl n m grid)
     ∙ ap (λ (b : List ℕ). head-line head ++ answer-lines n m grid b (answer-by pl limit (planned-by pl n m grid)))

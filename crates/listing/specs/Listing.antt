@@ -22,8 +22,8 @@ use Rattle.repair.specs.declared.Answer.{Answer}
 use Rattle.repair.specs.declared.Answer.the-variants as answer
 use Rattle.readers.specs.Reading.{read-map}
 use Rattle.readers.specs.declared.Head.{Head}
-use Rattle.readers.specs.declared.FileRead.{FileRead}
-use Rattle.readers.specs.declared.FileRead.the-variants as reader
+use Rattle.readers.specs.declared.MapRead.{MapRead}
+use Rattle.readers.specs.declared.MapRead.the-variants as reader
 use Rattle.writers.specs.Writing.{room-test, put}
 use Rattle.writers.specs.declared.FileWritten.{FileWritten}
 
@@ -170,7 +170,7 @@ abbrev pub planned-lines : Planner → Head → List ℕ → List ℕ
 planned-lines pl head grid = map-lines pl head grid (plan-by pl (head .rows) (head .columns) grid zeros limit)
 
 -- a map file, by what the reader answers
-unfoldable pub file-lines : Planner → FileRead × List ℕ → List ℕ
+unfoldable pub file-lines : Planner → MapRead × List ℕ → List ℕ
 file-lines pl (reader.File head, grid) = planned-lines pl head grid
 file-lines pl (reader.Refused r, grid) = refusal-line r
 

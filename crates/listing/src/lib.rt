@@ -1,8 +1,8 @@
 // The listing of a map file, as the bench program prints it: the map, the outcome, and after a repair the paths, the cells and the switches.
 use array::Refusal;
 use exact::Decision;
-use readers::FileRead;
 use readers::Head;
+use readers::MapRead;
 use repair::Answer;
 use repair::Planner;
 use trials::Outcome;
@@ -365,7 +365,7 @@ fn write_file(
     ensures { λ r. ⌜ Wrote (now (out .entry)) 0 (listing planner (now (s .entry))) r (now (out .exit)) ⌝ }
 {
     match readers::read_map(s, grid) {
-        FileRead::File(head) => write_map(
+        MapRead::File(head) => write_map(
             planner,
             out,
             head,
@@ -375,7 +375,7 @@ fn write_file(
             across,
             down,
         ),
-        FileRead::Refused(r) => write_refusal(out, r),
+        MapRead::Refused(r) => write_refusal(out, r),
     }
 }
 

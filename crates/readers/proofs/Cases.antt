@@ -25,7 +25,7 @@ use Rattle.formats.specs.declared.Kind.{Kind}
 use Rattle.formats.specs.declared.Kind.the-variants.{Map, Plan}
 use Rattle.formats.specs.declared.Record.{Record}
 use Rattle.formats.specs.declared.Record.the-variants.{Fault, Dead, Path}
-use Rattle.readers.specs.Reading.{no-record, mark-in-order, mark-fault, mark-dead, mark-path, record-at, records-at, whole-file, second-at, rest-at, body-at, read-file}
+use Rattle.readers.specs.Reading.{no-record, mark-in-order, mark-fault, mark-dead, mark-path, record-at, records-at, whole-file, second-at, trials-at, rest-at, body-at, read-file}
 use Rattle.readers.specs.Parts.{blank-mark, stands-at, off-number, repeated, value-at, is-value, marked}
 use Rattle.readers.specs.declared.Step.{Step}
 use Rattle.readers.specs.declared.Head.{Head}
@@ -215,19 +215,19 @@ pub none-left :
 unfolding records-at
 none-left kind s n m at before b = refl
 
--- a whole file, from what its records answered
-module _ (s : List ℕ) (head : Head) (lent : List ℕ) {x : Step × List ℕ} where
-  pub whole-refused : (e : Refusal) (b : List ℕ) → x ≡ (step.Refused e, b) → whole-file s head lent x ≡ (file.Refused e, lent)
+-- a whole file with T, from what its last part answered
+module _ (s : List ℕ) (head : Head) (t : ℕ) (lent : List ℕ) {x : Step × List ℕ} where
+  pub whole-refused : (e : Refusal) (b : List ℕ) → x ≡ (step.Refused e, b) → whole-file s head t lent x ≡ (file.Refused e, lent)
   whole-refused e b u = rw u
 
   module _ (at p : ℕ) (b : List ℕ) (u : x ≡ (step.Next at p, b)) where
-    pub whole-more : at < length s → whole-file s head lent x ≡ (file.Refused (refusal 12 at 0), lent)
+    pub whole-more : at < length s → whole-file s head t lent x ≡ (file.Refused (refusal 12 at 0), lent)
     whole-more l = rw (u, lt-ltb _ _ l)
 
-    pub whole-read : length s ≤ at → whole-file s head lent x ≡ (file.File head, b)
+    pub whole-read : length s ≤ at → whole-file s head t lent x ≡ (file.File head t, b)
     whole-read l = rw (u, le-ltb _ _ l)
 
--- T-04: what follows the first list, from what its records answered
+-- what follows the first list, from what its records answered
 module _ (s : List ℕ) (head : Head) (lent : List ℕ) where
   pub rest-refused :
       (kind : Kind) (e : Refusal) (b : List ℕ) {x : Step × List ℕ} →
@@ -237,7 +237,7 @@ module _ (s : List ℕ) (head : Head) (lent : List ℕ) where
   rest-refused Plan e b u = rw u
 
   module _ (at p : ℕ) (b : List ℕ) where
-    pub second-none : length s ≤ at → second-at s head lent (step.Next at p, b) ≡ (file.File head, b)
+    pub second-none : length s ≤ at → second-at s head lent (step.Next at p, b) ≡ (file.File head 0, b)
     second-none l = rw (le-ltb _ _ l)
 
     module _ (l : at < length s) where
@@ -251,9 +251,18 @@ module _ (s : List ℕ) (head : Head) (lent : List ℕ) where
         pub second-some :
             (k ≡ 0 → ⊥) →
             second-at s head lent (step.Next at p, b)
-            ≡ whole-file s (record { rows = head .rows; columns = head .columns; count = head .count + k }) lent
+            ≡ whole-file s (record { rows = head .rows; columns = head .columns; count = head .count + k }) 0 lent
             (records-at Dead s (head .rows) (head .columns) k a 0 b)
         second-some z = rw (lt-ltb _ _ l, q, ne-eqb k 0 z)
+
+    pub trials-cut : (e : Refusal) → number-at s at ≡ Refused e → trials-at s head lent (step.Next at p, b) ≡ (file.Refused e, lent)
+    trials-cut e q = rw q
+
+    pub trials-some :
+        (t end : ℕ) →
+        number-at s at ≡ Read t end →
+        trials-at s head lent (step.Next at p, b) ≡ whole-file s head t lent (step.Next end p, b)
+    trials-some t end q = rw q
 
 module _ (kind : Kind) (s lent : List ℕ) where
   pub file-short : (length lent ≡ 1024 → ⊥) → read-file kind s lent ≡ (file.Refused (refusal 2 0 0), lent)

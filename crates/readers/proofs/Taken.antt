@@ -20,14 +20,16 @@ use Rattle.formats.specs.declared.Kind.the-variants.{Map, Plan}
 use Rattle.formats.specs.declared.Record.{Record}
 use Rattle.formats.specs.declared.Record.the-variants.{Dead}
 use Rattle.formats.proofs.Cases.{ended}
-use Rattle.readers.specs.Reading.{record-at, records-at, whole-file, rest-at, read-file}
+use Rattle.readers.specs.Reading.{record-at, records-at, whole-file, rest-at, read-file, read-map, map-of}
 use Rattle.readers.specs.Parts.{stands-at, repeated, value-at, is-value, marked}
 use Rattle.readers.specs.declared.Step.{Step}
 use Rattle.readers.specs.declared.Head.{Head}
 use Rattle.readers.specs.declared.FileRead.{FileRead}
+use Rattle.readers.specs.declared.MapRead.{MapRead}
 use Rattle.readers.specs.declared.Step.the-variants as step
 use Rattle.readers.specs.declared.FileRead.the-variants as file
-use Rattle.readers.proofs.Cases.{size-number, stands-within, marked-in-order, in-order, out-of-order, no-row, no-column, no-value, record-marked, more-suc, stop-suc, none-left, whole-more, whole-read, rest-refused, second-none, second-cut, second-zero, second-some, file-short, no-rows, no-columns, no-count, head-read}
+use Rattle.readers.specs.declared.MapRead.the-variants as map
+use Rattle.readers.proofs.Cases.{size-number, stands-within, marked-in-order, in-order, out-of-order, no-row, no-column, no-value, record-marked, more-suc, stop-suc, none-left, whole-more, whole-read, rest-refused, second-none, second-cut, second-zero, second-some, trials-cut, trials-some, file-short, no-rows, no-columns, no-count, head-read}
 
 -- a list of k records that is taken from its start to its end, into the buffer b, which becomes c
 pub record List-taken (kind : Record) (s : List ℕ) (n m k start end : ℕ) (b c : List ℕ) : Type 0 where
@@ -165,7 +167,7 @@ module _ (kind : Record) (s : List ℕ) (n m : ℕ) (small : (n ≤ 30) × (m �
         (length c ≡ 1024) × P (0 + k) end (t .last) c
     list-keeps {k} {start} {end} {b} {c} w h t = records-keep k 0 start 0 end (t .last) b c w h (t .records-read)
 
--- what follows the first list of a file: nothing, or the second list of a map, of at least one record
+-- what follows the first list of a file: nothing, the second list of a map, of at least one record, or T of a plan
 pub record Ended (s : List ℕ) (at : ℕ) (b c : List ℕ) (more : ℕ) : Type 0 where
   pub ends : length s ≤ at
   pub same : b ≡ c
@@ -179,12 +181,17 @@ pub record Second-taken (s : List ℕ) (n m at : ℕ) (b c : List ℕ) (more : �
   pub list-read : List-taken Dead s n m more start end b c
   pub ends : length s ≤ end
 
-abbrev pub Rest-taken : Kind → List ℕ → ℕ → ℕ → ℕ → List ℕ → List ℕ → ℕ → Type 0
-Rest-taken Map s n m at b c more = Ended s at b c more ⊎ Second-taken s n m at b c more
-Rest-taken Plan s n m at b c more = Ended s at b c more
+pub record Trials-taken (s : List ℕ) (at : ℕ) (b c : List ℕ) (more t : ℕ) : Type 0 where
+  pub end : ℕ
+  pub trials-read : number-at s at ≡ Read t end
+  pub ended : Ended s end b c more
 
--- a file that is accepted: its numbers, and its lists to its end
-pub record File-taken (kind : Kind) (s b : List ℕ) (head : Head) : Type 0 where
+abbrev pub Rest-taken : Kind → List ℕ → ℕ → ℕ → ℕ → List ℕ → List ℕ → ℕ → ℕ → Type 0
+Rest-taken Map s n m at b c more t = (Ended s at b c more ⊎ Second-taken s n m at b c more) × (t ≡ 0)
+Rest-taken Plan s n m at b c more t = Trials-taken s at b c more t
+
+-- a file that is accepted with T: its numbers, and its lists to its end
+pub record File-taken (kind : Kind) (s b : List ℕ) (head : Head) (t : ℕ) : Type 0 where
   pub second : ℕ
   pub third : ℕ
   pub start : ℕ
@@ -197,56 +204,60 @@ pub record File-taken (kind : Kind) (s b : List ℕ) (head : Head) : Type 0 wher
   pub count-read : number-at s third ≡ Read count start
   pub first-read :
       List-taken (first-list kind) s (head .rows) (head .columns) count start end (blank kind (head .rows) (head .columns)) first
-  pub rest-read : Rest-taken kind s (head .rows) (head .columns) end first b more
+  pub rest-read : Rest-taken kind s (head .rows) (head .columns) end first b more t
   pub both : count + more ≡ head .count
 
 abbrev headed : ℕ → ℕ → ℕ → Head
 headed n m k = record { rows = n; columns = m; count = k }
 
 -- what an answer that accepts says of the last list, and of what follows the first
-module _ (s lent b : List ℕ) (head : Head) where
-  no-file : {A : Type 0} {e : Refusal} {d : List ℕ} → _≡_ {A = FileRead × List ℕ} (file.Refused e, d) (file.File head, b) → A
+module _ (s lent b : List ℕ) (head : Head) (t : ℕ) where
+  no-file : {A : Type 0} {e : Refusal} {d : List ℕ} → _≡_ {A = FileRead × List ℕ} (file.Refused e, d) (file.File head t, b) → A
   no-file {A} {e} {d} q =
-      let z : file.Refused e ≡ file.File head = ap (λ (x : FileRead × List ℕ). x .0) q in
+      let z : file.Refused e ≡ file.File head t = ap (λ (x : FileRead × List ℕ). x .0) q in
       absurd (let z : _≡_ {A = ℕ} 0 1 = cc z in omega arith)
 
-  record Whole (h : Head) (x : Step × List ℕ) : Type 0 where
+  record Whole (h : Head) (u : ℕ) (x : Step × List ℕ) : Type 0 where
     end : ℕ
     last : ℕ
     read : x ≡ (step.Next end last, b)
     ends : length s ≤ end
     is-head : h ≡ head
+    is-trials : u ≡ t
 
-  whole-taken : (h : Head) (x : Step × List ℕ) → whole-file s h lent x ≡ (file.File head, b) → Whole h x
-  whole-taken h (step.Refused e, c) q = no-file q
-  whole-taken h (step.Next at p, c) q =
+  whole-taken : (h : Head) (u : ℕ) (x : Step × List ℕ) → whole-file s h u lent x ≡ (file.File head t, b) → Whole h u x
+  whole-taken h u (step.Refused e, c) q = no-file q
+  whole-taken h u (step.Next at p, c) q =
       by-lt at (length s)
-      (λ l. no-file (sym (whole-more s h lent at p c refl l) ∙ q))
+      (λ l. no-file (sym (whole-more s h u lent at p c refl l) ∙ q))
       (λ l.
-      let f = sym (whole-read s h lent at p c refl l) ∙ q in
+      let f = sym (whole-read s h u lent at p c refl l) ∙ q in
+      let g : file.File h u ≡ file.File head t = ap (λ (x : FileRead × List ℕ). x .0) f in
       record {
         end = at;
         last = p;
         read = ap (λ (x : FileRead × List ℕ). (step.Next at p, x .1)) f;
         ends = l;
-        is-head = cc (ap (λ (x : FileRead × List ℕ). x .0) f);
+        is-head = cc g;
+        is-trials = cc g;
       })
 
   module _ (n m k at p : ℕ) (c : List ℕ) where
     record Rest (kind : Kind) : Type 0 where
       more : ℕ
-      taken : Rest-taken kind s n m at c b more
+      taken : Rest-taken kind s n m at c b more t
       is-head : headed n m (k + more) ≡ head
 
-    rest-taken : (kind : Kind) → rest-at kind s (headed n m k) lent (step.Next at p, c) ≡ (file.File head, b) → Rest kind
+    rest-taken : (kind : Kind) → rest-at kind s (headed n m k) lent (step.Next at p, c) ≡ (file.File head t, b) → Rest kind
     rest-taken Map q =
         by-lt at (length s) (λ l. by-number l (number-at s at) refl)
         (λ l.
         let f = sym (second-none s (headed n m k) lent at p c l) ∙ q in
+        let g : file.File (headed n m k) 0 ≡ file.File head t = ap (λ (x : FileRead × List ℕ). x .0) f in
         record {
           more = 0;
-          taken = inl (record { ends = l; same = ap (λ (x : FileRead × List ℕ). x .1) f; none = refl });
-          is-head = rw (add-zero k) (cc (ap (λ (x : FileRead × List ℕ). x .0) f));
+          taken = (inl (record { ends = l; same = ap (λ (x : FileRead × List ℕ). x .1) f; none = refl }), cc g);
+          is-head = rw (add-zero k) (cc g);
         })
       where
         by-number : at < length s → (r : Number) → number-at s at ≡ r → Rest Map
@@ -255,48 +266,59 @@ module _ (s lent b : List ℕ) (head : Head) where
             by-eq j 0
             (λ z. no-file (sym (second-zero s (headed n m k) lent at p c l j a u z) ∙ q))
             (λ z.
-            let t = whole-taken (headed n m (k + j)) _ (sym (second-some s (headed n m k) lent at p c l j a u z) ∙ q) in
+            let w = whole-taken (headed n m (k + j)) 0 _ (sym (second-some s (headed n m k) lent at p c l j a u z) ∙ q) in
             record {
               more = j;
-              taken =
-                  inr
-                  (record {
-                    start = a;
-                    end = t .end;
-                    count-read = u;
-                    some = z;
-                    list-read = record { last = t .last; records-read = t .read };
-                    ends = t .ends;
-                  });
-              is-head = t .is-head;
+              taken = (
+                inr
+                    (record {
+                      start = a;
+                      end = w .end;
+                      count-read = u;
+                      some = z;
+                      list-read = record { last = w .last; records-read = w .read };
+                      ends = w .ends;
+                    }),
+                sym (w .is-trials),
+              );
+              is-head = w .is-head;
             })
-    rest-taken Plan q =
-        let t = whole-taken (headed n m k) (step.Next at p, c) q in
-        let e : step.Next at p ≡ step.Next (t .end) (t .last) = ap (λ (x : Step × List ℕ). x .0) (t .read) in
-        let f : at ≡ t .end = cc e in
-        record {
-          more = 0;
-          taken = record { ends = omega (arith, t .ends, f); same = ap (λ (x : Step × List ℕ). x .1) (t .read); none = refl };
-          is-head = rw (add-zero k) (t .is-head);
-        }
+    rest-taken Plan q = by-number (number-at s at) refl
+      where
+        by-number : (r : Number) → number-at s at ≡ r → Rest Plan
+        by-number (Refused e) u = no-file (sym (trials-cut s (headed n m k) lent at p c e u) ∙ q)
+        by-number (Read j a) u =
+            let w = whole-taken (headed n m k) j (step.Next a p, c) (sym (trials-some s (headed n m k) lent at p c j a u) ∙ q) in
+            let e : step.Next a p ≡ step.Next (w .end) (w .last) = ap (λ (x : Step × List ℕ). x .0) (w .read) in
+            let f : a ≡ w .end = cc e in
+            record {
+              more = 0;
+              taken =
+                  record {
+                    end = a;
+                    trials-read = u ∙ ap (λ (z : ℕ). Read z a) (w .is-trials);
+                    ended = record { ends = omega (arith, w .ends, f); same = ap (λ (x : Step × List ℕ). x .1) (w .read); none = refl };
+                  };
+              is-head = rw (add-zero k) (w .is-head);
+            }
 
-module _ (kind : Kind) (s lent b : List ℕ) (head : Head) (q : read-file kind s lent ≡ (file.File head, b)) where
+module _ (kind : Kind) (s lent b : List ℕ) (head : Head) (t : ℕ) (q : read-file kind s lent ≡ (file.File head t, b)) where
   abbrev F : Type 0
-  F = File-taken kind s b head
+  F = File-taken kind s b head t
 
   refused : {A : Type 0} {e : Refusal} {d : List ℕ} → read-file kind s lent ≡ (file.Refused e, d) → A
-  refused r = no-file s lent b head (sym r ∙ q)
+  refused r = no-file s lent b head t (sym r ∙ q)
 
-  module _ (w : length lent ≡ 1024) (n a m d k e : ℕ) (u : size-at s 0 ≡ Read n a) (v : size-at s a ≡ Read m d) (t : number-at s d ≡ Read k e)
+  module _ (w : length lent ≡ 1024) (n a m d k e : ℕ) (u : size-at s 0 ≡ Read n a) (v : size-at s a ≡ Read m d) (i : number-at s d ≡ Read k e)
     where
       listed : (r : Step × List ℕ) → records-at (first-list kind) s n m k e 0 (blank kind n m) ≡ r → F
-      listed (step.Refused x, c) z = refused (head-read kind s lent w n a u m d v k e t ∙ rest-refused s _ lent kind x c z)
+      listed (step.Refused x, c) z = refused (head-read kind s lent w n a u m d v k e i ∙ rest-refused s _ lent kind x c z)
       listed (step.Next at p, c) z =
-          let y = rest-taken s lent b head n m k at p c kind
-          (ap (rest-at kind s (headed n m k) lent) (sym z) ∙ sym (head-read kind s lent w n a u m d v k e t) ∙ q) in
+          let y = rest-taken s lent b head t n m k at p c kind
+          (ap (rest-at kind s (headed n m k) lent) (sym z) ∙ sym (head-read kind s lent w n a u m d v k e i) ∙ q) in
           rw (y .is-head) at (found (y .more) (y .taken))
         where
-          found : (more : ℕ) → Rest-taken kind s n m at c b more → File-taken kind s b (headed n m (k + more))
+          found : (more : ℕ) → Rest-taken kind s n m at c b more t → File-taken kind s b (headed n m (k + more)) t
           found more y =
               record {
                 second = a;
@@ -308,15 +330,15 @@ module _ (kind : Kind) (s lent b : List ℕ) (head : Head) (q : read-file kind s
                 first = c;
                 rows-read = u;
                 columns-read = v;
-                count-read = t;
+                count-read = i;
                 first-read = record { last = p; records-read = z };
                 rest-read = y;
                 both = refl;
               }
 
   by-count : length lent ≡ 1024 → (n a m d : ℕ) → size-at s 0 ≡ Read n a → size-at s a ≡ Read m d → (r : Number) → number-at s d ≡ r → F
-  by-count w n a m d u v (Refused e) t = refused (no-count kind s lent w n a u m d v e t)
-  by-count w n a m d u v (Read k e) t = listed w n a m d k e u v t (records-at (first-list kind) s n m k e 0 (blank kind n m)) refl
+  by-count w n a m d u v (Refused e) i = refused (no-count kind s lent w n a u m d v e i)
+  by-count w n a m d u v (Read k e) i = listed w n a m d k e u v i (records-at (first-list kind) s n m k e 0 (blank kind n m)) refl
 
   by-columns : length lent ≡ 1024 → (n a : ℕ) → size-at s 0 ≡ Read n a → (r : Number) → size-at s a ≡ r → F
   by-columns w n a u (Refused e) v = refused (no-columns kind s lent w n a u e v)
@@ -332,36 +354,41 @@ module _ (kind : Kind) (s lent b : List ℕ) (head : Head) (q : read-file kind s
 -- the other way round: such a file is accepted, over any lent buffer
 number-within : (s : List ℕ) (at v next : ℕ) → number-at s at ≡ Read v next → at < length s
 number-within s at v next q =
-    by-lt at (length s) (λ l. l) (λ l. absurd (let z : _≡_ {A = ℕ} 0 1 = cc (sym (ended s at l) ∙ q) in omega arith))
+    by-lt at (length s) (λ l. l) (λ l. absurd (let z : _≡_ {A = ℕ} 0 1 = cc (sym (ended s at 2 at l) ∙ q) in omega arith))
 
 taken-rest :
-    (kind : Kind) (s lent b : List ℕ) (n m k at p more : ℕ) (c : List ℕ) →
-    Rest-taken kind s n m at c b more →
-    rest-at kind s (headed n m k) lent (step.Next at p, c) ≡ (file.File (headed n m (k + more)), b)
-taken-rest kind s lent b n m k at p more c = by-kind kind
+    (kind : Kind) (s lent b : List ℕ) (n m k at p more t : ℕ) (c : List ℕ) →
+    Rest-taken kind s n m at c b more t →
+    rest-at kind s (headed n m k) lent (step.Next at p, c) ≡ (file.File (headed n m (k + more)) t, b)
+taken-rest kind s lent b n m k at p more t c = by-kind kind
   where
     at-end :
-        {x : FileRead × List ℕ} →
-        Ended s at c b more →
-        x ≡ (file.File (headed n m k), c) →
-        x ≡ (file.File (headed n m (k + more)), b)
-    at-end t e = e ∙ rw (t .none, t .same, add-zero k) refl
+        {x : FileRead × List ℕ} {end u : ℕ} →
+        Ended s end c b more →
+        u ≡ t →
+        x ≡ (file.File (headed n m k) u, c) →
+        x ≡ (file.File (headed n m (k + more)) t, b)
+    at-end w z e = e ∙ rw (w .none, w .same, add-zero k, z) refl
 
-    by-kind : (kind : Kind) → Rest-taken kind s n m at c b more
-        → rest-at kind s (headed n m k) lent (step.Next at p, c) ≡ (file.File (headed n m (k + more)), b)
-    by-kind Map (inl t) = at-end t (second-none s (headed n m k) lent at p c (t .ends))
-    by-kind Map (inr t) =
-        second-some s (headed n m k) lent at p c (number-within s at more (t .start) (t .count-read)) more (t .start) (t .count-read)
-        (t .some)
-        ∙ whole-read s (headed n m (k + more)) lent (t .end) (t .list-read .last) b (t .list-read .records-read) (t .ends)
-    by-kind Plan t = at-end t (whole-read s (headed n m k) lent at p c refl (t .ends))
+    by-kind : (kind : Kind) → Rest-taken kind s n m at c b more t
+        → rest-at kind s (headed n m k) lent (step.Next at p, c) ≡ (file.File (headed n m (k + more)) t, b)
+    by-kind Map (inl w, z) = at-end w (sym z) (second-none s (headed n m k) lent at p c (w .ends))
+    by-kind Map (inr w, z) =
+        second-some s (headed n m k) lent at p c (number-within s at more (w .start) (w .count-read)) more (w .start) (w .count-read)
+        (w .some)
+        ∙ whole-read s (headed n m (k + more)) 0 lent (w .end) (w .list-read .last) b (w .list-read .records-read) (w .ends)
+        ∙ ap (λ (u : ℕ). (file.File (headed n m (k + more)) u, b)) (sym z)
+    by-kind Plan w =
+        at-end (w .ended) refl
+        (trials-some s (headed n m k) lent at p c t (w .end) (w .trials-read)
+        ∙ whole-read s (headed n m k) t lent (w .end) p c refl (w .ended .ends))
 
-module _ (kind : Kind) (s b : List ℕ) (head : Head) (f : File-taken kind s b head) where
-  pub taken-file : (lent : List ℕ) → length lent ≡ 1024 → read-file kind s lent ≡ (file.File head, b)
+module _ (kind : Kind) (s b : List ℕ) (head : Head) (t : ℕ) (f : File-taken kind s b head t) where
+  pub taken-file : (lent : List ℕ) → length lent ≡ 1024 → read-file kind s lent ≡ (file.File head t, b)
   taken-file lent w =
       head-read kind s lent w (head .rows) _ (f .rows-read) (head .columns) _ (f .columns-read) (f .count) _ (f .count-read)
       ∙ ap (rest-at kind s (headed (head .rows) (head .columns) (f .count)) lent) (f .first-read .records-read)
-      ∙ taken-rest kind s lent b (head .rows) (head .columns) (f .count) (f .end) (f .first-read .last) (f .more) (f .first)
+      ∙ taken-rest kind s lent b (head .rows) (head .columns) (f .count) (f .end) (f .first-read .last) (f .more) t (f .first)
       (f .rest-read)
       ∙ rw (f .both) refl
 
@@ -369,3 +396,19 @@ module _ (kind : Kind) (s b : List ℕ) (head : Head) (f : File-taken kind s b h
   pub sizes-taken : (size (head .rows) && size (head .columns)) ≡ true
   sizes-taken =
       and-both _ _ (size-number s 0 (head .rows) _ (f .rows-read) .1) (size-number s _ (head .columns) _ (f .columns-read) .1)
+
+-- a map that its reader accepts is a file that is accepted with T 0
+pub map-read :
+    (s lent grid : List ℕ) (head : Head) → read-map s lent ≡ (map.File head, grid) → read-file Map s lent ≡ (file.File head 0, grid)
+map-read s lent grid head q = by-file (read-file Map s lent) refl
+  where
+    by-file : (x : FileRead × List ℕ) → read-file Map s lent ≡ x → read-file Map s lent ≡ (file.File head 0, grid)
+    by-file (file.Refused e, b) u =
+        let v : map.Refused e ≡ map.File head = ap (λ (y : FileRead × List ℕ). map-of (y .0)) (sym u) ∙ ap (λ (y : MapRead × List ℕ). y .0) q in
+        absurd (let z : _≡_ {A = ℕ} 0 1 = cc v in omega arith)
+    by-file (file.File h t, b) u =
+        let v : map.File h ≡ map.File head = ap (λ (y : FileRead × List ℕ). map-of (y .0)) (sym u) ∙ ap (λ (y : MapRead × List ℕ). y .0) q in
+        let e : h ≡ head = cc v in
+        let f : b ≡ grid = ap (λ (y : FileRead × List ℕ). y .1) (sym u) ∙ ap (λ (y : MapRead × List ℕ). y .1) q in
+        let z : t ≡ 0 = file-taken Map s lent b h t u .rest-read .1 in
+        u ∙ rw (e, f, z) refl

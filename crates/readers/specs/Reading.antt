@@ -1,5 +1,5 @@
--- Document 01, "Files" and "Numbers returned", and document 02, T-01 and T-04: what a reader answers, and the lent
--- buffer afterwards. Assumes nothing.
+-- Document 01, "Files" and "Numbers returned", and document 02, T-01, T-04 and T-06: what a reader answers, and the
+-- lent buffer afterwards. Assumes nothing.
 use Prim.Native.Nat.{ℕ, zero, suc, _+_}
 use mathlib.Core.Bool.{cond, _&&_}
 use mathlib.Core.List.{List, [], _∷_}
@@ -19,12 +19,19 @@ use Rattle.readers.specs.declared.Head.{Head}
 use Rattle.readers.specs.declared.Step.{Step}
 use Rattle.readers.specs.declared.FileRead.{FileRead}
 use Rattle.readers.specs.declared.FileRead.the-variants.{File, Refused}
+use Rattle.readers.specs.declared.MapRead.{MapRead}
+use Rattle.readers.specs.declared.MapRead.the-variants as map
 use Rattle.readers.specs.declared.Step.the-variants as step
 
--- N, M and the count, or the refusal
+-- T-06. Of a plan: N, M, the count and T, or the refusal.
 abbrev pub told : FileRead → Told
-told (File h) = accepts (h .rows ∷ h .columns ∷ h .count ∷ [])
+told (File h t) = accepts (h .rows ∷ h .columns ∷ h .count ∷ t ∷ [])
 told (Refused r) = refuses-as r
+
+-- of a map: N, M and the count, or the refusal
+abbrev pub told-map : MapRead → Told
+told-map (map.File h) = accepts (h .rows ∷ h .columns ∷ h .count ∷ [])
+told-map (map.Refused r) = refuses-as r
 
 -- a record's refusal, with the buffer as it was; place is the record's row
 abbrev pub no-record : ℕ → ℕ → List ℕ → Step × List ℕ
@@ -89,14 +96,14 @@ records-at kind s n m zero at before b = (step.Next at before, b)
 records-at kind s n m (suc k) at before b =
     and-then (record-at kind s n m at before b) (λ next p c. records-at kind s n m k next p c)
 
--- 12: the file goes on after its last record, from the place on. A refusal leaves the lent buffer as it was.
-abbrev pub whole-file : List ℕ → Head → List ℕ → Step × List ℕ → FileRead × List ℕ
-whole-file s head lent (step.Next at p, b) = cond (ltb at (length s)) (Refused (refusal 12 at 0), lent) (File head, b)
-whole-file s head lent (step.Refused r, b) = (Refused r, lent)
+-- 12: the file goes on after its last part, from the place on. T is t. A refusal leaves the lent buffer as it was.
+abbrev pub whole-file : List ℕ → Head → ℕ → List ℕ → Step × List ℕ → FileRead × List ℕ
+whole-file s head t lent (step.Next at p, b) = cond (ltb at (length s)) (Refused (refusal 12 at 0), lent) (File head t, b)
+whole-file s head t lent (step.Refused r, b) = (Refused r, lent)
 
 -- k records of dead processors from an offset on, into a grid, and then the end of the file
 abbrev pub dead-at : List ℕ → Head → List ℕ → ℕ → ℕ → List ℕ → FileRead × List ℕ
-dead-at s head lent k at grid = whole-file s head lent (records-at Dead s (head .rows) (head .columns) k at 0 grid)
+dead-at s head lent k at grid = whole-file s head 0 lent (records-at Dead s (head .rows) (head .columns) k at 0 grid)
 
 -- T-04. What follows the first list of a map: the file ends, or goes on with a second count and the places of the dead
 -- processors. A second count of 0 is 12 at its start. The count that is returned is of both lists.
@@ -108,13 +115,19 @@ second-at s head lent (step.Next at p, grid) =
     cond (eqb k 0) (Refused (refusal 12 at 0), lent)
     (dead-at s (record { rows = head .rows; columns = head .columns; count = head .count + k }) lent k a grid))
     (λ r. (Refused r, lent)))
-    (File head, grid)
+    (File head 0, grid)
 second-at s head lent (step.Refused r, b) = (Refused r, lent)
+
+-- T-06. What follows the paths of a plan: T, the trials on record, and the end of the file.
+abbrev pub trials-at : List ℕ → Head → List ℕ → Step × List ℕ → FileRead × List ℕ
+trials-at s head lent (step.Next at p, b) =
+    read-or (number-at s at) (λ t end. whole-file s head t lent (step.Next end p, b)) (λ r. (Refused r, lent))
+trials-at s head lent (step.Refused r, b) = (Refused r, lent)
 
 -- what follows the first list of a file
 abbrev pub rest-at : Kind → List ℕ → Head → List ℕ → Step × List ℕ → FileRead × List ℕ
 rest-at Map s head lent x = second-at s head lent x
-rest-at Plan s head lent x = whole-file s head lent x
+rest-at Plan s head lent x = trials-at s head lent x
 
 -- what follows N, M and the count: the records, into a blank buffer, then the rest of the file
 abbrev pub body-at : Kind → List ℕ → Head → List ℕ → ℕ → FileRead × List ℕ
@@ -137,9 +150,13 @@ read-file kind s lent =
     (λ r. (Refused r, lent)))
     (Refused (refusal 2 0 0), lent)
 
--- what read_map and read_plan answer
-abbrev pub read-map : List ℕ → List ℕ → FileRead × List ℕ
-read-map s grid = read-file Map s grid
+-- what read_map and read_plan answer: a map has no T
+abbrev pub map-of : FileRead → MapRead
+map-of (File h t) = map.File h
+map-of (Refused r) = map.Refused r
+
+abbrev pub read-map : List ℕ → List ℕ → MapRead × List ℕ
+read-map s grid = (map-of (read-file Map s grid .0), read-file Map s grid .1)
 
 abbrev pub read-plan : List ℕ → List ℕ → FileRead × List ℕ
 read-plan s directions = read-file Plan s directions

@@ -10,7 +10,8 @@ ghost use Rattle.array.specs.Tests.{refusal};
 ghost use lib.ListN.{length};
 ghost use Rattle.formats.specs.Number.{size-at};
 ghost use Rattle.formats.specs.Records.{blank};
-ghost use Rattle.readers.specs.Reading.{told, record-at, records-at, whole-file, dead-at, second-at, rest-at, body-at, read-file, read-map, read-plan};
+ghost use Rattle.readers.specs.Reading.{told, told-map, record-at, records-at, whole-file, dead-at, second-at, trials-at};
+ghost use Rattle.readers.specs.Reading.{rest-at, body-at, map-of, read-file, read-map, read-plan};
 ghost use Rattle.readers.specs.Parts.{blank-mark, stands-at, off-number, repeated, value-at, is-value, marked};
 ghost use Rattle.formats.specs.declared.Record.the-variants.{Dead};
 ghost use Rattle.readers.specs.declared.Step.the-variants.{Next, Refused};
@@ -21,15 +22,22 @@ pub enum Step {
     Refused(Refusal),
 }
 
-// What a reader returns of a file: N, M and the count, which of a map is that of both lists.
+// What both readers return of a file: N, M and the count, which of a map is that of both lists.
 pub struct Head {
     pub rows: usize,
     pub columns: usize,
     pub count: usize,
 }
 
-// What a reader answers.
+// What the reader of plan files answers, with T, the trials on record. The inner parts answer so for both kinds of file:
+// a map has no T, and 0 stands for it.
 pub enum FileRead {
+    File(Head, u32),
+    Refused(Refusal),
+}
+
+// What the reader of map files answers.
+pub enum MapRead {
     File(Head),
     Refused(Refusal),
 }
@@ -276,10 +284,10 @@ fn copy(to: &mut [u8], from: [u8; 1024])
     }
 }
 
-// Fills the lent buffer where the file ends with its last record.
-fn fill(s: &[u8], head: Head, end: usize, b: [u8; 1024], lent: &mut [u8]) -> FileRead
+// Fills the lent buffer where the file ends there.
+fn fill(s: &[u8], head: Head, trials: u32, end: usize, b: [u8; 1024], lent: &mut [u8]) -> FileRead
     requires { ⌜ length (now lent) ≡ 1024 ⌝ }
-    ensures { λ r. ⌜ ((p : ℕ) → (r, now (lent .exit)) ≡ whole-file (now (s .entry)) head (now (lent .entry)) (Next end p, b)) ⌝ }
+    ensures { λ r. ⌜ ((p : ℕ) → (r, now (lent .exit)) ≡ whole-file (now (s .entry)) head trials (now (lent .entry)) (Next end p, b)) ⌝ }
 {
     if end < s.len() {
         return FileRead::Refused(Refusal {
@@ -289,7 +297,7 @@ fn fill(s: &[u8], head: Head, end: usize, b: [u8; 1024], lent: &mut [u8]) -> Fil
         });
     }
     copy(lent, b);
-    FileRead::File(head)
+    FileRead::File(head, trials)
 }
 
 // Reads the second list of a map, of `more` dead processors, into a grid that has its faults, and fills the lent buffer.
@@ -314,7 +322,7 @@ fn read_dead(
         start,
         &mut grid,
     ) {
-        Step::Next(end, _) => fill(s, head, end, grid, lent),
+        Step::Next(end, _) => fill(s, head, 0, end, grid, lent),
         Step::Refused(r) => FileRead::Refused(r),
     }
 }
@@ -326,7 +334,7 @@ fn read_second(s: &[u8], head: Head, end: usize, grid: [u8; 1024], lent: &mut [u
 {
     if s.len() <= end {
         copy(lent, grid);
-        return FileRead::File(head);
+        return FileRead::File(head, 0);
     }
     let a = formats::read_number(s, end);
     let Number::Read(more, start) = a else {
@@ -347,6 +355,18 @@ fn read_second(s: &[u8], head: Head, end: usize, grid: [u8; 1024], lent: &mut [u
     read_dead(s, both, more as usize, start, grid, lent)
 }
 
+// Reads what follows the paths of a plan: T, and the end of the file.
+fn read_trials(s: &[u8], head: Head, at: usize, directions: [u8; 1024], lent: &mut [u8]) -> FileRead
+    requires { ⌜ length (now lent) ≡ 1024 ⌝ }
+    ensures { λ r. ⌜ ((p : ℕ) → (r, now (lent .exit)) ≡ trials-at (now (s .entry)) head (now (lent .entry)) (Next at p, directions)) ⌝ }
+{
+    let a = formats::read_number(s, at);
+    let Number::Read(trials, end) = a else {
+        return FileRead::Refused(formats::refusal_of(a));
+    };
+    fill(s, head, trials, end, directions, lent)
+}
+
 // Reads what follows the first list of a file.
 fn read_rest(
     kind: Kind,
@@ -361,7 +381,7 @@ fn read_rest(
 {
     match kind {
         Kind::Map => read_second(s, head, end, b, lent),
-        Kind::Plan => fill(s, head, end, b, lent),
+        Kind::Plan => read_trials(s, head, end, b, lent),
     }
 }
 
@@ -409,18 +429,30 @@ fn read_file(kind: Kind, s: &[u8], lent: &mut [u8]) -> FileRead
     read_body(kind, s, head, start, lent)
 }
 
+// The answer of a map's reader, which has no T.
+fn map_of(a: FileRead) -> MapRead
+    ensures { λ r. ⌜ r ≡ map-of a ⌝ }
+{
+    match a {
+        FileRead::File(head, _) => MapRead::File(head),
+        FileRead::Refused(r) => MapRead::Refused(r),
+    }
+}
+
 // The operations.
 
 // Reads a map file into a grid.
-pub fn read_map(s: &[u8], grid: &mut [u8]) -> FileRead
-    ensures { λ r. ⌜ (told r ≡ told (read-map (now (s .entry)) (now (grid .entry)) .0)) × (now (grid .exit) ≡ read-map (now (s .entry)) (now (grid .entry)) .1) ⌝ }
+pub fn read_map(s: &[u8], grid: &mut [u8]) -> MapRead
+    ensures { λ r. ⌜ (told-map r ≡ told-map (read-map (now (s .entry)) (now (grid .entry)) .0))
+        × (now (grid .exit) ≡ read-map (now (s .entry)) (now (grid .entry)) .1) ⌝ }
 {
-    read_file(Kind::Map, s, grid)
+    map_of(read_file(Kind::Map, s, grid))
 }
 
 // Reads a plan file into directions.
 pub fn read_plan(s: &[u8], directions: &mut [u8]) -> FileRead
-    ensures { λ r. ⌜ (told r ≡ told (read-plan (now (s .entry)) (now (directions .entry)) .0)) × (now (directions .exit) ≡ read-plan (now (s .entry)) (now (directions .entry)) .1) ⌝ }
+    ensures { λ r. ⌜ (told r ≡ told (read-plan (now (s .entry)) (now (directions .entry)) .0))
+        × (now (directions .exit) ≡ read-plan (now (s .entry)) (now (directions .entry)) .1) ⌝ }
 {
     read_file(Kind::Plan, s, directions)
 }

@@ -19,12 +19,12 @@ use Rattle.array.specs.declared.Refusal.{Refusal}
 use Rattle.array.specs.declared.Verdict.{Verdict}
 use Rattle.array.proofs.Bools.{by-bool, or-true, or-false, and-one}
 use Rattle.array.proofs.Places.{Sized, sized}
-use Rattle.array.proofs.Verdicts.{both-accepted, accepted-not, accepted-false}
+use Rattle.array.proofs.Verdicts.{both-accepted, accepted-not, accepted-false, false-accepted}
 use Rattle.array.proofs.Scans.{scan-each, buffer-scan}
 use Rattle.formats.specs.Records.{file-bytes}
 use Rattle.formats.specs.declared.Kind.{Kind}
 use Rattle.formats.specs.declared.Kind.the-variants.{Map, Plan}
-use Rattle.writers.specs.Writing.{path-test, buffer-test, room-test, put, write-file}
+use Rattle.writers.specs.Writing.{path-test, buffer-test, trials-test, room-test, put, write-file}
 use Rattle.writers.specs.declared.FileWritten.the-variants.{Length, Refused}
 use Rattle.array.specs.declared.Verdict.the-variants as verdict
 
@@ -89,6 +89,13 @@ pub path-tested :
     (n m p d : ℕ) {r : Bool} → r ≡ inner n m p → (ltb 4 d || (not r && not (eqb d 0))) ≡ (ltb 4 d || (not (inner n m p) && not (eqb d 0)))
 path-tested n m p d e = ap (λ (z : Bool). ltb 4 d || (not z && not (eqb d 0))) e
 
+-- the test of the trials
+pub trials-low : (t : ℕ) → trials-test Plan t ≡ verdict.Accepted → t < 2097152
+trials-low t h = let l : t ≤ 2097151 = ltb-false 2097151 t (accepted-false _ 21 0 0 h) in omega arith
+
+pub low-trials : (t : ℕ) → t < 2097152 → trials-test Plan t ≡ verdict.Accepted
+low-trials t h = false-accepted 21 0 0 (le-ltb 2097151 t (omega arith))
+
 -- what is put where the tests are done
 module _ (bytes out : List ℕ) where
   pub put-short : length out < length bytes → put (room-test bytes out) bytes out ≡ (Refused (refusal 14 (length bytes) 0), out)
@@ -103,13 +110,33 @@ module _ (bytes out : List ℕ) where
       let e : sets out 0 bytes ≡ bytes ++ drop (0 + length bytes) out = sets-eq bytes out 0 (omega arith) in
       put-whole l ∙ rw (e, zero-add)
 
-module _ (kind : Kind) (n m : ℕ) (b out : List ℕ) where
-  pub file-refused : (r : Refusal) → buffer-test kind n m b ≡ verdict.Refused r → write-file kind n m b out ≡ (Refused r, out)
+  -- where the test of the room stands after others
+  pub put-refused : {v : Verdict} (r : Refusal) → v ≡ verdict.Refused r → put v bytes out ≡ (Refused r, out)
+  put-refused r h = rw h
+
+  pub room-enough : room-test bytes out ≡ verdict.Accepted → length bytes ≤ length out
+  room-enough h = ltb-false _ _ (accepted-false _ 14 (length bytes) 0 h)
+
+  pub put-tested :
+      (v : Verdict) →
+      or-else v (room-test bytes out) ≡ verdict.Accepted →
+      put (or-else v (room-test bytes out)) bytes out ≡ (Length (length bytes), sets out 0 bytes)
+  put-tested v h = let x = both-accepted v _ h in rw (x .0) (put-stored (room-enough (x .1)))
+
+module _ (kind : Kind) (n m : ℕ) (b : List ℕ) (t : ℕ) (out : List ℕ) where
+  pub file-refused : (r : Refusal) → buffer-test kind n m b ≡ verdict.Refused r → write-file kind n m b t out ≡ (Refused r, out)
   unfolding write-file
   file-refused r h = rw h
 
   pub file-accepted :
       buffer-test kind n m b ≡ verdict.Accepted →
-      write-file kind n m b out ≡ put (room-test (file-bytes kind n m b) out) (file-bytes kind n m b) out
+      write-file kind n m b t out
+      ≡ put (or-else (trials-test kind t) (room-test (file-bytes kind n m b t) out)) (file-bytes kind n m b t) out
   unfolding write-file
   file-accepted h = rw h
+
+  pub file-recorded :
+      buffer-test kind n m b ≡ verdict.Accepted →
+      trials-test kind t ≡ verdict.Accepted →
+      write-file kind n m b t out ≡ put (room-test (file-bytes kind n m b t) out) (file-bytes kind n m b t) out
+  file-recorded h g = file-accepted h ∙ rw g

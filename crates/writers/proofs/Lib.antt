@@ -1,5 +1,4 @@
 pub mod Answers
-pub mod Runs
 pub mod Records
 pub mod Accepted
 pub mod Within

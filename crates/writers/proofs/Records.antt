@@ -14,14 +14,14 @@ use Rattle.array.specs.Place.{row, column}
 use Rattle.array.specs.Buffer.{positions-along}
 use Rattle.array.proofs.Bools.{by-bool, cond-taken, cond-left}
 use Rattle.formats.specs.Number.{bytes-of}
-use Rattle.formats.specs.Records.{recorded, record-bytes, records-along, record-count, list-bytes, first-list, second-list, file-bytes}
+use Rattle.formats.specs.Records.{recorded, record-bytes, records-along, record-count, list-bytes, first-list, rest-bytes, file-bytes}
 use Rattle.formats.specs.declared.Kind.{Kind}
 use Rattle.formats.specs.declared.Kind.the-variants.{Map, Plan}
 use Rattle.formats.specs.declared.Record.{Record}
 use Rattle.formats.specs.declared.Record.the-variants.{Fault, Dead, Path}
 use Rattle.formats.proofs.Cases.{one-byte}
-use Rattle.writers.specs.Parts.{pair-bytes, value-bytes, element-bytes, records-of, records-length, list-length, dead-count, dead-list, dead-length}
-use Rattle.writers.proofs.Runs.{Splits}
+use Rattle.writers.specs.Parts.{pair-bytes, value-bytes, element-bytes, records-of, records-length, list-length, dead-count, dead-list, rest-length}
+use Rattle.formats.proofs.Runs.{Splits}
 
 -- a record is its row with its column, and its value
 pub record-is : (kind : Record) (p v : ℕ) → record-bytes kind p v ≡ pair-bytes (row p) (column p) ++ value-bytes kind v
@@ -32,7 +32,7 @@ record-is Path p v = sym (append-assoc (bytes-of (row p)) (bytes-of (column p)) 
 pub pair-first : (kind : Record) (p v : ℕ) → Splits (record-bytes kind p v) (pair-bytes (row p) (column p)) (value-bytes kind v)
 pair-first kind p v = record { is = record-is kind p v }
 
--- a list is its count and its records; a file is N with M and its lists
+-- a list is its count and its records; a file is N with M, its first list and the rest
 pub count-first :
     (kind : Record) (count : ℕ) (b : List ℕ) →
     count ≡ record-count kind b →
@@ -40,12 +40,10 @@ pub count-first :
 count-first kind count b e = record { is = rw e refl }
 
 pub sizes-first :
-    (kind : Kind) (n m dead : ℕ) (b : List ℕ) →
-    dead ≡ dead-count kind b →
-    Splits (file-bytes kind n m b) (pair-bytes n m) (list-bytes (first-list kind) b ++ dead-list dead b)
+    (kind : Kind) (n m : ℕ) (b : List ℕ) (t : ℕ) →
+    Splits (file-bytes kind n m b t) (pair-bytes n m) (list-bytes (first-list kind) b ++ rest-bytes kind b t)
 unfolding file-bytes
-sizes-first Map n m dead b e = record { is = rw e (sym (append-assoc (bytes-of n) (bytes-of m) _)) }
-sizes-first Plan n m dead b e = record { is = rw e (sym (append-assoc (bytes-of n) (bytes-of m) _)) }
+sizes-first kind n m b t = record { is = sym (append-assoc (bytes-of n) (bytes-of m) _) }
 
 -- the list of k dead processors
 module _ (k : ℕ) (b : List ℕ) where
@@ -54,10 +52,6 @@ module _ (k : ℕ) (b : List ℕ) where
 
   pub dead-some : (k ≡ 0 → ⊥) → dead-list k b ≡ list-bytes Dead b
   dead-some z = cond-left [] (list-bytes Dead b) refl (ne-eqb k 0 z)
-
-  pub dead-known : (kind : Kind) → k ≡ dead-count kind b → 0 < k → k ≡ record-count Dead b
-  dead-known Map e l = e
-  dead-known Plan e l = absurd (omega arith)
 
 -- the bytes of an element whose test a callee answered as r
 module _ (kind : Record) (p v : ℕ) {r : Bool} (e : r ≡ recorded kind p v) where
@@ -148,26 +142,27 @@ module _ (b : List ℕ) (w : length b ≡ 1024) (s : Small b) where
   listed-length kind =
       omega (arith, length-append (bytes-of (record-count kind b)) (records-of kind b), along-length kind b 0 (omega arith) s)
 
-  second-length : (kind : Kind) → length (second-list kind b) ≡ dead-length (dead-count kind b)
-  second-length Map = by-bool (eqb (record-count Dead b) 0) (λ t. rw t refl) (λ t. rw t (listed-length Dead))
-  second-length Plan = refl
+  rest-is-long : (kind : Kind) (t : ℕ) → length (rest-bytes kind b t) ≡ rest-length kind (dead-count kind b) t
+  rest-is-long Map t = by-bool (eqb (record-count Dead b) 0) (λ z. rw z refl) (λ z. rw z (listed-length Dead))
+  rest-is-long Plan t = refl
 
   pub file-length :
-      (kind : Kind) (n m : ℕ) →
+      (kind : Kind) (n m t : ℕ) →
       n ≤ 30 →
       m ≤ 30 →
-      length (file-bytes kind n m b)
-      ≡ 2 + list-length (first-list kind) (record-count (first-list kind) b) + dead-length (dead-count kind b)
+      length (file-bytes kind n m b t)
+      ≡ 2 + list-length (first-list kind) (record-count (first-list kind) b) + rest-length kind (dead-count kind b) t
   unfolding file-bytes
-  file-length kind n m a d =
+  file-length kind n m t a d =
       let first = list-bytes (first-list kind) b in
+      let rest = rest-bytes kind b t in
       omega (
         arith,
-        length-append (bytes-of n) (bytes-of m ++ (first ++ second-list kind b)),
-        length-append (bytes-of m) (first ++ second-list kind b),
-        length-append first (second-list kind b),
+        length-append (bytes-of n) (bytes-of m ++ (first ++ rest)),
+        length-append (bytes-of m) (first ++ rest),
+        length-append first rest,
         one-byte n (omega arith),
         one-byte m (omega arith),
         listed-length (first-list kind),
-        second-length kind,
+        rest-is-long kind t,
       )

@@ -1,4 +1,5 @@
--- Document 01, "Files" and "Numbers returned": what a writer answers, and the file buffer afterwards.
+-- Document 01, "Files" and "Numbers returned", and document 02, T-06: what a writer answers, and the file buffer
+-- afterwards.
 -- Assumes nothing.
 use Prim.Native.Nat.{ℕ}
 use mathlib.Core.Bool.{not, _&&_, _||_}
@@ -32,6 +33,11 @@ buffer-test Map n m grid = map-test n m (grid ∷ []) grid
 buffer-test Plan n m directions =
     or-else (size-test n m) (or-else (length-test (all-long (directions ∷ []))) (first-in (path-test n m) directions))
 
+-- T-06. 21: the trials to be written exceed the highest number of a file. A map has none.
+abbrev pub trials-test : Kind → ℕ → Verdict
+trials-test Map t = verdict.Accepted
+trials-test Plan t = refuse-if (ltb 2097151 t) 21 0 0
+
 -- 14: no room for the file; the place is its length
 abbrev pub room-test : List ℕ → List ℕ → Verdict
 room-test bytes out = refuse-if (ltb (length out) (length bytes)) 14 (length bytes) 0
@@ -41,14 +47,15 @@ abbrev pub put : Verdict → List ℕ → List ℕ → FileWritten × List ℕ
 put verdict.Accepted bytes out = (Length (length bytes), bytes ++ drop (length bytes) out)
 put (verdict.Refused r) bytes out = (Refused r, out)
 
--- what a writer answers, with the file buffer afterwards
-unfoldable pub write-file : Kind → ℕ → ℕ → List ℕ → List ℕ → FileWritten × List ℕ
-write-file kind n m b out =
-    put (or-else (buffer-test kind n m b) (room-test (file-bytes kind n m b) out)) (file-bytes kind n m b) out
+-- what a writer answers, with the file buffer afterwards; t is T, which only a plan has
+unfoldable pub write-file : Kind → ℕ → ℕ → List ℕ → ℕ → List ℕ → FileWritten × List ℕ
+write-file kind n m b t out =
+    put (or-else (buffer-test kind n m b) (or-else (trials-test kind t) (room-test (file-bytes kind n m b t) out)))
+    (file-bytes kind n m b t) out
 
 -- what write_map and write_plan answer
 abbrev pub write-map : ℕ → ℕ → List ℕ → List ℕ → FileWritten × List ℕ
-write-map n m grid out = write-file Map n m grid out
+write-map n m grid out = write-file Map n m grid 0 out
 
-abbrev pub write-plan : ℕ → ℕ → List ℕ → List ℕ → FileWritten × List ℕ
-write-plan n m directions out = write-file Plan n m directions out
+abbrev pub write-plan : ℕ → ℕ → List ℕ → ℕ → List ℕ → FileWritten × List ℕ
+write-plan n m directions t out = write-file Plan n m directions t out

@@ -6,7 +6,7 @@ use Prim.Native.Nat.{ℕ, _-_, _≤_}
 use mathlib.Core.Path.{refl, ap}
 use native.Mathlib.Omega.{arith}
 use Rattle.array.specs.Buffer.{span}
-use Rattle.writers.proofs.Runs.{Run, run-step, run-end}
+use Rattle.formats.proofs.Runs.{Run, run-step, run-end}
 use Rattle.grids.specs.Text.{text-byte, text}
 use Rattle.grids.proofs.Texts.{text-start, span-turn, span-end}
 use borrow.Author.Needs.{needs}

@@ -7,7 +7,7 @@ use native.Mathlib.Nat.{pos-of-ne-zero}
 use borrow.Author.Needs.{needs}
 use borrow.Author.Tests.{eqb-false}
 use Rattle.array.proofs.Bools.{or-false}
-use Rattle.writers.proofs.Runs.{run-start, run-room}
+use Rattle.formats.proofs.Runs.{run-start, run-room}
 use Rattle.listing.specs.Listing.{digits}
 use Rattle.listing.proofs.Along.{digits-last, digits-room, digits-more, last-room, last-wrote}
 use Prim.Native.Nat.{ℕ, _<_, _≤_}

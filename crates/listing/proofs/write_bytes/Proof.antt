@@ -6,7 +6,7 @@ use lib.ListN.{length, drop}
 use native.Mathlib.Omega.{arith}
 use mathlib.Core.Path.{_≡_, refl}
 use borrow.Author.Needs.{needs}
-use Rattle.writers.proofs.Runs.{Run, run-start, run-room, run-step, run-end}
+use Rattle.formats.proofs.Runs.{Run, run-start, run-room, run-step, run-end}
 use Rattle.listing.proofs.Along.{list-turn, list-end}
 use Rattle.listing.proofs.write_bytes.Statement.{statement}
 use Rattle.listing.proofs.write_bytes.Tie as tie

@@ -2,7 +2,7 @@
 -- Assumes nothing.
 use denote.Ref.{now}
 use mathlib.Core.Path.{refl}
-use Rattle.writers.proofs.Runs.{splits-all, run-start, run-room, run-step, run-end}
+use Rattle.formats.proofs.Runs.{splits-all, run-start, run-room, run-step, run-end}
 use Rattle.listing.specs.Listing.{decision-lines}
 use Rattle.listing.proofs.Cases.{decision-repaired, decision-beyond}
 use borrow.Author.Needs.{needs}
@@ -20,21 +20,23 @@ write-bytes-requires c κs =
     let s = c .before .before .before .before .before .before .before .before .before .before in
     let a = s .args in
     let r = run-start (now (a .out)) (a .at) (decision-lines (a .n) (a .m) (now (a .grid)) (now (a .directions)) (a
-        .d)) (s .pre .1) in
+    .d)) (s .pre .1) in
     run-room r (decision-repaired (a .n) (a .m) (now (a .grid)) (now (a .directions)) (c .before .before .enum-told
-        .given .1))
+    .given .1))
 
 write-repair-requires : tie.Need-write-repair-requires
 write-repair-requires c κs =
     let s = c .before .before .before .before .before .before .before .before .before .before .before .before .before
-        .before .before .before .before in
+    .before .before .before .before in
     let a = s .args in
     let r = run-start (now (a .out)) (a .at) (decision-lines (a .n) (a .m) (now (a .grid)) (now (a .directions)) (a
-        .d)) (s .pre .1) in
-    let w = c .before .before .before .before .before .before .write-bytes .ensures in
-    (s .pre .0, run-room (run-step r (decision-repaired (a .n) (a .m) (now (a .grid)) (now (a .directions)) (c
-        .before .before .before .before .before .before .before .before .before .enum-told .given .1)) (w .0) (w .1))
-        (splits-all _))
+    .d)) (s .pre .1) in
+    let w = c .before .before .before .before .before .before .write-bytes .ensures in (
+      s .pre .0,
+      run-room (run-step r (decision-repaired (a .n) (a .m) (now (a .grid)) (now (a .directions)) (c
+          .before .before .before .before .before .before .before .before .before .enum-told .given .1)) (w .0) (w .1))
+          (splits-all _),
+    )
 
 enum-told-2 : tie.Need-enum-told-2
 enum-told-2 c = search needs
@@ -47,7 +49,7 @@ write-bytes-requires-2 c κs =
     let s = c .before .before .before .before .before .before .before .before .before .before in
     let a = s .args in
     rw (decision-beyond (a .n) (a .m) (now (a .grid)) (now (a .directions)) (c .before .before .enum-told2 .given
-        .1)) at (s .pre .1)
+    .1)) at (s .pre .1)
 
 same-length : tie.Need-same-length
 same-length c = search needs
@@ -64,16 +66,16 @@ same-length-4 c = search needs
 returns : tie.Need-returns
 returns c =
     let s = c .before .before .before .before .before .before .before .before .before .before .before .before .before
-        .before .before .before .before .before .before .before .before .before .before .before .before .before in
+    .before .before .before .before .before .before .before .before .before .before .before .before .before in
     let a = s .args in
     let r = run-start (now (a .out)) (a .at) (decision-lines (a .n) (a .m) (now (a .grid)) (now (a .directions)) (a
-        .d)) (s .pre .1) in
+    .d)) (s .pre .1) in
     let w = c .before .before .before .before .before .before .before .before .before .before .before .before .before
-        .before .before .write-bytes .ensures in
+    .before .before .write-bytes .ensures in
     let x = c .before .before .before .before .before .before .before .before .write-repair .ensures in
     let t = run-step r (decision-repaired (a .n) (a .m) (now (a .grid)) (now (a .directions)) (c .before .before
-        .before .before .before .before .before .before .before .before .before .before .before .before .before
-        .before .before .before .enum-told .given .1)) (w .0) (w .1) in
+    .before .before .before .before .before .before .before .before .before .before .before .before .before
+    .before .before .before .enum-told .given .1)) (w .0) (w .1) in
     run-end (run-step t (splits-all _) (x .0) (x .1)) refl
 
 same-length-5 : tie.Need-same-length-5
@@ -82,9 +84,9 @@ same-length-5 c = search needs
 returns-2 : tie.Need-returns-2
 returns-2 c =
     let a = c .before .before .before .before .before .before .before .before .before .before .before .before .before
-        .args in
+    .args in
     rw (decision-beyond (a .n) (a .m) (now (a .grid)) (now (a .directions)) (c .before .before .before .before
-        .before .enum-told2 .given .1)) (c .before .before .write-bytes2 .ensures)
+    .before .enum-told2 .given .1)) (c .before .before .write-bytes2 .ensures)
 
 pub write-decision-spec : {M : Type 1} → statement M
 write-decision-spec =

@@ -3,7 +3,7 @@
 use denote.Ref.{now}
 use mathlib.Core.Path.{refl}
 use mathlib.Core.List.{[], _∷_}
-use Rattle.writers.proofs.Runs.{splits, splits-all, run-start, run-room, run-step, run-end}
+use Rattle.formats.proofs.Runs.{splits, splits-all, run-start, run-room, run-step, run-end}
 use Rattle.listing.specs.Listing.{digits, field}
 use borrow.Author.Needs.{needs}
 use Rattle.listing.proofs.write_field.Statement.{statement}

@@ -2,7 +2,7 @@
 -- Assumes nothing.
 use denote.Ref.{now}
 use mathlib.Core.Path.{refl}
-use Rattle.writers.proofs.Runs.{splits, splits-all, run-start, run-room, run-step, run-end}
+use Rattle.formats.proofs.Runs.{splits, splits-all, run-start, run-room, run-step, run-end}
 use Rattle.listing.specs.Listing.{along, field, line}
 use Rattle.listing.proofs.Cases.{line-first}
 use borrow.Author.Needs.{needs}

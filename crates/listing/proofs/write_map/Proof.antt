@@ -4,7 +4,7 @@ use denote.Ref.{now}
 use mathlib.Core.Path.{refl, _∙_}
 use mathlib.Core.List.{List}
 use Prim.Native.Nat.{ℕ}
-use Rattle.writers.proofs.Runs.{splits-all, run-start, run-room, run-step, run-end}
+use Rattle.formats.proofs.Runs.{splits-all, run-start, run-room, run-step, run-end}
 use Rattle.listing.specs.Listing.{planned-lines}
 use Rattle.listing.proofs.Cases.{map-planned, map-decided, map-refused}
 use borrow.Author.Needs.{needs}
@@ -103,7 +103,7 @@ write-refusal-requires c κs =
     let p = q .plan-by .ensures in
     let r = c .before .before .r .given .1 in
     rw (map-refused (a .planner) (a .head) (now (a .grid)) (q .plan-by .result) (s .pre .0) (p .0) (p .1) r) at (s
-        .pre .2)
+    .pre .2)
 
 same-length : tie.Need-same-length
 same-length c = search needs

@@ -2,7 +2,7 @@
 -- Assumes nothing.
 use denote.Ref.{now}
 use mathlib.Core.Path.{refl}
-use Rattle.writers.proofs.Runs.{splits-all, run-start, run-room, run-step, run-end}
+use Rattle.formats.proofs.Runs.{splits-all, run-start, run-room, run-step, run-end}
 use Rattle.listing.specs.Listing.{outcome-lines}
 use Rattle.listing.proofs.Cases.{outcome-repaired, outcome-beyond, outcome-spent}
 use borrow.Author.Needs.{needs}

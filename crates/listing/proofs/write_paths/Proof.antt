@@ -3,7 +3,7 @@
 use denote.Ref.{now}
 use Prim.Native.Nat.{_-_, _≤_}
 use native.Mathlib.Omega.{arith}
-use Rattle.writers.proofs.Runs.{Run, run-start, run-room, run-step, run-end}
+use Rattle.formats.proofs.Runs.{Run, run-start, run-room, run-step, run-end}
 use Rattle.listing.specs.Listing.{along, fault-bytes}
 use Rattle.listing.proofs.Along.{along-from, along-turn, along-end}
 use Rattle.listing.proofs.write_paths.Statement.{statement}

@@ -4,7 +4,7 @@ use denote.Ref.{now}
 use mathlib.Core.Path.{refl}
 use mathlib.Core.List.{List, _++_}
 use Prim.Native.Nat.{ℕ}
-use Rattle.writers.proofs.Runs.{Run, Splits, splits, splits-all, run-start, run-room, run-step, run-end}
+use Rattle.formats.proofs.Runs.{Run, Splits, splits, splits-all, run-start, run-room, run-step, run-end}
 use Rattle.listing.specs.Listing.{along, fault-bytes, seat-bytes, switch-line, across-word, down-word, plan-lines}
 use Rattle.listing.proofs.Cases.{plan-first}
 use borrow.Author.Needs.{needs}

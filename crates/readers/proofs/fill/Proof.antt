@@ -9,7 +9,7 @@ use Rattle.readers.proofs.fill.Tie as tie
 
 returns : tie.Need-returns
 returns c = λ p.
-    let a = c .before .before .before .args in sym (whole-more (now (a .s)) (a .head) (now (a .lent)) (a .end) p (a .b) refl (c .if1 .taken))
+    let a = c .before .before .before .args in sym (whole-more (now (a .s)) (a .head) (a .trials) (now (a .lent)) (a .end) p (a .b) refl (c .if1 .taken))
 
 copy-requires : tie.Need-copy-requires
 copy-requires c κs = search needs
@@ -21,7 +21,7 @@ returns-2 : tie.Need-returns-2
 returns-2 c = λ p.
     let a = c .before .before .before .before .before .before .before .args in
     rw (c .before .before .copy .ensures)
-    (sym (whole-read (now (a .s)) (a .head) (now (a .lent)) (a .end) p (a .b) refl (c .before .before .before .before .if1 .left)))
+    (sym (whole-read (now (a .s)) (a .head) (a .trials) (now (a .lent)) (a .end) p (a .b) refl (c .before .before .before .before .if1 .left)))
 
 pub fill-spec : {M : Type 1} → statement M
 fill-spec = tie.close (tie.spec returns copy-requires same-length returns-2)

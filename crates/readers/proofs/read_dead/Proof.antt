@@ -29,11 +29,11 @@ returns : tie.Need-returns
 returns c =
     let e = c .before .before .before .before .before in
     c .before .before .fill .ensures (e .end .given .0 .1 .0)
-    ∙ ap (whole-file _ _ _) (rw (e .end .given .1) at (e .before .before .before .read-records .ensures))
+    ∙ ap (whole-file _ _ _ _) (rw (e .end .given .1) at (e .before .before .before .read-records .ensures))
 
 returns-2 : tie.Need-returns-2
 returns-2 c =
-    sym (whole-refused _ _ _ _ _ (sym (rw (c .before .r .given .1) at (c .before .before .before .before .read-records .ensures))))
+    sym (whole-refused _ _ _ _ _ _ (sym (rw (c .before .r .given .1) at (c .before .before .before .before .read-records .ensures))))
 
 pub read-dead-spec : {M : Type 1} → statement M
 read-dead-spec =

@@ -13,8 +13,8 @@ read-second-requires c κs = search needs
 enum-told-2 : tie.Need-enum-told-2
 enum-told-2 c = search needs
 
-fill-requires : tie.Need-fill-requires
-fill-requires c κs = search needs
+read-trials-requires : tie.Need-read-trials-requires
+read-trials-requires c κs = search needs
 
 same-length : tie.Need-same-length
 same-length c = search needs
@@ -26,7 +26,7 @@ same-length-2 : tie.Need-same-length-2
 same-length-2 c = search needs
 
 returns-2 : tie.Need-returns-2
-returns-2 c = λ p. rw (c .before .before .before .before .enum-told2 .given .1) (c .before .before .fill .ensures p)
+returns-2 c = λ p. rw (c .before .before .before .before .enum-told2 .given .1) (c .before .before .read-trials .ensures p)
 
 pub read-rest-spec : {M : Type 1} → statement M
 read-rest-spec =
@@ -35,7 +35,7 @@ read-rest-spec =
     enum-told
     read-second-requires
     enum-told-2
-    fill-requires
+    read-trials-requires
     same-length
     returns
     same-length-2

@@ -17,7 +17,7 @@ write-list-requires c κs =
     let a = c .before .before .before .before .args in
     let f = c .before .before .before .before .pre in
     let z = c .before .if1 .left in
-    (f .0, f .1 (omega (arith, z)), f .2, rw (dead-some (a .count) (now (a .b)) z) at (f .3))
+    (f .0, f .1, f .2, rw (dead-some (a .count) (now (a .b)) z) at (f .3))
 
 same-length : tie.Need-same-length
 same-length c = search needs

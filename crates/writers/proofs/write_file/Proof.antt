@@ -16,7 +16,7 @@ enum-known-v c = search needs
 returns : tie.Need-returns
 returns c =
     let a = c .before .before .before .before .before .before .args in
-    sym (file-refused (a .kind) (a .n) (a .m) (now (a .b)) (now (a .out)) _
+    sym (file-refused (a .kind) (a .n) (a .m) (now (a .b)) (a .trials) (now (a .out)) _
     (sym (c .before .before .before .check-buffer .ensures) ∙ c .before .v .given .1))
 
 enum-told : tie.Need-enum-told
@@ -32,7 +32,7 @@ returns-2 : tie.Need-returns-2
 returns-2 c =
     let a = c .before .before .before .before .before .before .before .before .before .args in
     c .before .before .write-checked .ensures
-    ∙ sym (file-accepted (a .kind) (a .n) (a .m) (now (a .b)) (now (a .out))
+    ∙ sym (file-accepted (a .kind) (a .n) (a .m) (now (a .b)) (a .trials) (now (a .out))
     (sym (c .before .before .before .before .before .before .check-buffer .ensures)
     ∙ c .before .before .before .before .enum-told .given .1))
 

@@ -4,7 +4,7 @@ use denote.Ref.{now}
 use mathlib.Core.Path.{refl}
 use Rattle.formats.specs.Records.{list-bytes}
 use Rattle.writers.specs.Parts.{records-of}
-use Rattle.writers.proofs.Runs.{splits-all, run-start, run-room, run-step, run-end}
+use Rattle.formats.proofs.Runs.{splits-all, run-start, run-room, run-step, run-end}
 use Rattle.writers.proofs.Records.{count-first}
 use native.Mathlib.Omega.{arith}
 use borrow.Author.Needs.{needs}

@@ -4,7 +4,7 @@ use denote.Ref.{now}
 use mathlib.Core.Path.{refl}
 use Rattle.formats.specs.Number.{bytes-of}
 use Rattle.writers.specs.Parts.{pair-bytes}
-use Rattle.writers.proofs.Runs.{splits, splits-all, run-start, run-room, run-step, run-end}
+use Rattle.formats.proofs.Runs.{splits, splits-all, run-start, run-room, run-step, run-end}
 use borrow.Author.Needs.{needs}
 use Rattle.writers.proofs.write_pair.Statement.{statement}
 use Rattle.writers.proofs.write_pair.Tie as tie

@@ -4,7 +4,7 @@ use denote.Ref.{now}
 use mathlib.Core.Path.{refl}
 use Rattle.formats.specs.Records.{record-bytes}
 use Rattle.writers.specs.Parts.{value-bytes}
-use Rattle.writers.proofs.Runs.{splits-all, run-start, run-room, run-step, run-end}
+use Rattle.formats.proofs.Runs.{splits-all, run-start, run-room, run-step, run-end}
 use Rattle.writers.proofs.Records.{pair-first}
 use borrow.Author.Needs.{needs}
 use native.Mathlib.Omega.{arith}

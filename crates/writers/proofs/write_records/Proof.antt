@@ -3,7 +3,7 @@
 use denote.Ref.{now}
 use Prim.Native.Nat.{_-_, _≤_}
 use Rattle.writers.specs.Parts.{records-of}
-use Rattle.writers.proofs.Runs.{Run, run-start, run-room, run-step, run-end}
+use Rattle.formats.proofs.Runs.{Run, run-start, run-room, run-step, run-end}
 use Rattle.writers.proofs.Records.{records-from, records-turn, records-end}
 use native.Mathlib.Omega.{arith}
 use Rattle.writers.proofs.write_records.Statement.{statement}
