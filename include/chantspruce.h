@@ -75,25 +75,27 @@
  *
  * FILES
  *
- * A number below 128 is one byte. One from 128 to 16,383 is two bytes: 128 + its low seven bits, then the other bits, which are not 0.
+ * A number, 0 to 2,097,151, is one to three bytes, as few as hold it: seven bits in each, the low ones first, and the top
+ * bit set in all but the last.
  * A map file: N, M, the number of faults that are not dead, spares among them, then for each its row and its column. Where there are dead
  * processors it goes on with their number and the row and the column of each; else it ends there.
- * A plan file: N, M, the number of paths, then for each path the row and the column of its start and its direction (1 to 4).
- * Each list is in row order by itself. Each map and each plan has one file: what the library reads without a refusal is byte for byte what it
- * writes of it again.
+ * A plan file: N, M, the number of paths, then for each path the row and the column of its start and its direction
+ * (1 to 4), then the trials on record: any number, as a rule the `count` of the planner's result.
+ * Each list is in row order by itself. Each map has one file, and so has each plan with its trials: what the library
+ * reads without a refusal is byte for byte what it writes of it again.
  *
  *
  * RESULTS
  *
  * Each result begins with `number`, `place` and `second`. An accepted call has number CHANTSPRUCE_ACCEPTED, which is 0, and 0 in both places;
- * its values follow. A refused call has one of the numbers 1 to 20 below and 0 in every value, and has written to no buffer. Tests are
+ * its values follow. A refused call has one of the numbers 1 to 21 below and 0 in every value, and has written to no buffer. Tests are
  * made in a fixed order, which each function states, and the first that fails is returned.
  *
  *
  * WHAT THE CALLER MUST SEE TO
  *
- * Any number may be passed for any size, cell, side, offset or limit, any bytes in any buffer, and any length: a wrong one is refused. Beyond
- * that, as for all C functions:
+ * Any number may be passed for any size, cell, side, offset, limit or trials, any bytes in any buffer, and any length: a wrong one is
+ * refused. Beyond that, as for all C functions:
  *  - A pointer is valid for as many elements as the length after it says, and is aligned for its type. A length is in elements, not in bytes.
  *    A null pointer is never allowed. Where the length is 0 nothing is read or written, and any other pointer will do.
  *  - A buffer that a call writes to (a parameter that is no pointer to const) overlaps no other buffer of the same call. Two buffers
@@ -119,7 +121,7 @@ extern "C" {
 #define CHANTSPRUCE_BUFFER 1024        /* elements of every buffer that is indexed by position */
 #define CHANTSPRUCE_MAX_SIZE 30        /* the largest N, and the largest M */
 #define CHANTSPRUCE_MAP_ROOM 2046      /* bytes of the longest map file */
-#define CHANTSPRUCE_PLAN_ROOM 2704     /* bytes of the longest plan file */
+#define CHANTSPRUCE_PLAN_ROOM 2707     /* bytes of the longest plan file */
 #define CHANTSPRUCE_LISTING_ROOM 32768 /* bytes that are room for every listing */
 #define CHANTSPRUCE_STACK 65536        /* bytes of stack that are enough for every call */
 
@@ -203,16 +205,18 @@ enum {
     CHANTSPRUCE_PATHS_MEET = 6,
     /* Two paths are a near-miss. Place and second: where they start. */
     CHANTSPRUCE_NEAR_MISS = 7,
-    /* The file ends before all that it announces. Place: the length of the file. */
+    /* The file ends before all that it announces, or a plan file before its trials. Place: the length of the file. */
     CHANTSPRUCE_FILE_CUT = 8,
-    /* A number of two bytes whose second byte is 0 or above 127. Place: the offset of the number. */
+    /* The third byte of a number has its top bit set, or its last byte is 0 and not its only one. Place: the offset of
+       the number. */
     CHANTSPRUCE_WRONG_NUMBER = 9,
     /* A fault of a map's first list is at no processor, or a path starts at a position that is not inside. Place: the offset of the record's
        row. */
     CHANTSPRUCE_WRONG_POSITION = 10,
     /* A record has the position of an earlier one, in the same list or in the other. Place: the offset of the later record's row. */
     CHANTSPRUCE_REPEATED = 11,
-    /* Bytes follow the last record. A number of dead processors that is 0 counts as such. Place: the offset of the first of them. */
+    /* Bytes follow the last record of a map file or the trials of a plan file. A number of dead processors that is 0
+       counts as such. Place: the offset of the first of them. */
     CHANTSPRUCE_FILE_GOES_ON = 12,
     /* The direction of a path in a file is not 1 to 4. Place: the offset of the record's row. */
     CHANTSPRUCE_WRONG_FILE_DIRECTION = 13,
@@ -231,7 +235,9 @@ enum {
     /* A record of a file has a lower position than the record before it in its list. Place: the offset of the record's row. */
     CHANTSPRUCE_WRONG_ORDER = 19,
     /* A dead processor of a map file is at a position that is not inside. Place: the offset of the record's row. */
-    CHANTSPRUCE_WRONG_DEAD_POSITION = 20
+    CHANTSPRUCE_WRONG_DEAD_POSITION = 20,
+    /* The trials to be written are more than 2,097,151, the highest number of a file. */
+    CHANTSPRUCE_WRONG_TRIALS = 21
 };
 
 /* A FAULT OF A LIST */
@@ -275,19 +281,30 @@ typedef struct chantspruce_number {
     uint32_t number;
     size_t place;
     size_t second;
-    uint32_t value; /* the number read: 0 to 16,383 */
+    uint32_t value; /* the number read: 0 to 2,097,151 */
     size_t next;    /* the offset of the byte after it */
 } chantspruce_number;
 
-/* Of the file readers. */
+/* Of the map reader. */
 typedef struct chantspruce_head {
     uint32_t number;
     size_t place;
     size_t second;
     size_t rows;    /* N */
     size_t columns; /* M */
-    size_t count;   /* of faults, spares and dead processors among them, or of paths */
+    size_t count;   /* of faults, spares and dead processors among them */
 } chantspruce_head;
+
+/* Of the plan reader. */
+typedef struct chantspruce_plan_head {
+    uint32_t number;
+    size_t place;
+    size_t second;
+    size_t rows;     /* N */
+    size_t columns;  /* M */
+    size_t count;    /* of paths */
+    uint32_t trials; /* on record: 0 to 2,097,151 */
+} chantspruce_plan_head;
 
 /* Of the file writers and of the listings. */
 typedef struct chantspruce_length {
@@ -425,9 +442,9 @@ chantspruce_head chantspruce_read_map(const uint8_t *file, size_t file_length,
 
 /* Reads a plan file and writes its directions. Only chantspruce_check_plan tells whether they are a plan for a grid.
  * Refuses 2, then what comes first in the file: 1 at N and M, 8 and 9 at every number; 10, 11, 13, 19 in this order at each record, when all
- * its numbers are read; 12 at the end. */
-chantspruce_head chantspruce_read_plan(const uint8_t *file, size_t file_length,
-                                       uint8_t *directions, size_t directions_length);
+ * its numbers are read; 12 after the trials. */
+chantspruce_plan_head chantspruce_read_plan(const uint8_t *file, size_t file_length,
+                                            uint8_t *directions, size_t directions_length);
 
 /* Writes the map file of a grid to `out`, which has room for `out_length` bytes, and keeps the bytes after it. CHANTSPRUCE_MAP_ROOM is
  * always enough.
@@ -436,11 +453,12 @@ chantspruce_length chantspruce_write_map(size_t rows, size_t columns,
                                          const uint8_t *grid, size_t grid_length,
                                          uint8_t *out, size_t out_length);
 
-/* Writes the plan file of directions to `out`, which has room for `out_length` bytes, and keeps the bytes after it. CHANTSPRUCE_PLAN_ROOM is
- * always enough.
- * Refuses 1, 2, 4, 14, in this order. */
+/* Writes the plan file of directions, with `trials` on record, to `out`, which has room for `out_length` bytes, and keeps
+ * the bytes after it. CHANTSPRUCE_PLAN_ROOM is always enough.
+ * Refuses 1, 2, 4, 21, 14, in this order. */
 chantspruce_length chantspruce_write_plan(size_t rows, size_t columns,
                                           const uint8_t *directions, size_t directions_length,
+                                          uint32_t trials,
                                           uint8_t *out, size_t out_length);
 
 /* Writes the listing of a map file, as lines of ASCII text without a 0 at the end, to `out`, which has room for

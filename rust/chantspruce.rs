@@ -35,7 +35,7 @@ pub const BUFFER: usize = 1024;
 pub const MAP_ROOM: usize = 2046;
 
 /// Room for every plan file.
-pub const PLAN_ROOM: usize = 2704;
+pub const PLAN_ROOM: usize = 2707;
 
 /// Room for every listing.
 pub const LISTING_ROOM: usize = 32768;
@@ -91,15 +91,15 @@ pub enum Reason {
     Meeting = 6,
     /// Two paths are a near-miss.
     NearMiss = 7,
-    /// The file stops where a number should go on or begin.
+    /// The file stops where a number should go on or begin, such as a plan file without its trials.
     FileEnds = 8,
-    /// A number of the file is too long, or could be written shorter.
+    /// A number of the file has a third byte with its top bit set, or could be written shorter.
     NumberForm = 9,
     /// A record names a place where no fault or path start can be.
     RecordPlace = 10,
     /// A record names the place of an earlier one.
     Repeated = 11,
-    /// The file goes on after its last record, or its second count is 0.
+    /// The file goes on after its last record, or a plan file after its trials, or its second count is 0.
     Trailing = 12,
     /// A record of a plan file has no direction from 1 to 4.
     RecordDirection = 13,
@@ -117,12 +117,14 @@ pub enum Reason {
     RecordOrder = 19,
     /// A record names a place for a dead processor that is not inside the array, such as a spare's.
     DeadPlace = 20,
+    /// The trials to be written are more than 2,097,151, the highest number of a file.
+    Trials = 21,
     /// An answer that the interface does not have. The library gives none.
     Unknown = 0,
 }
 
 /// The reasons in the order of their numbers, which begin with 1.
-const REASONS: [Reason; 20] = [
+const REASONS: [Reason; 21] = [
     Reason::Size,
     Reason::BufferLength,
     Reason::Mark,
@@ -143,6 +145,7 @@ const REASONS: [Reason; 20] = [
     Reason::FourthSwitch,
     Reason::RecordOrder,
     Reason::DeadPlace,
+    Reason::Trials,
 ];
 
 impl Reason {
@@ -151,7 +154,7 @@ impl Reason {
         REASONS.get(index).copied().unwrap_or(Reason::Unknown)
     }
 
-    /// The number of the refusal, 1 to 20; 0 for [`Reason::Unknown`].
+    /// The number of the refusal, 1 to 21; 0 for [`Reason::Unknown`].
     pub fn number(self) -> u32 {
         self as u32
     }
@@ -239,21 +242,34 @@ pub struct Link {
 /// A number that was read from a file.
 #[derive(Clone, Copy, Debug, PartialEq, Eq)]
 pub struct Number {
-    /// Its value.
+    /// Its value: 0 to 2,097,151.
     pub value: u32,
     /// The offset after it.
     pub next: usize,
 }
 
-/// Size and count of a file.
+/// Size and count of a map file.
 #[derive(Clone, Copy, Debug, PartialEq, Eq)]
 pub struct Head {
     /// The array's rows of cells.
     pub rows: usize,
     /// The array's columns of cells.
     pub columns: usize,
-    /// The number of records; of a map file in both lists.
+    /// The number of records in both lists.
     pub count: usize,
+}
+
+/// Size, count and trials of a plan file.
+#[derive(Clone, Copy, Debug, PartialEq, Eq)]
+pub struct PlanHead {
+    /// The array's rows of cells.
+    pub rows: usize,
+    /// The array's columns of cells.
+    pub columns: usize,
+    /// The number of paths.
+    pub count: usize,
+    /// The trials on record.
+    pub trials: u32,
 }
 
 /// An inner fault and the direction of its path.
@@ -377,9 +393,9 @@ pub fn read_map(file: &[u8], grid: &mut [u8]) -> Result<Head, Refusal> {
     flat::read_map(file, grid).answer()
 }
 
-/// Reads a plan file and fills `directions`. A file that is read is byte for byte what [`write_plan`] writes of it again. Refusals: 1, 2, 8 to
-/// 13 and 19.
-pub fn read_plan(file: &[u8], directions: &mut [u8]) -> Result<Head, Refusal> {
+/// Reads a plan file and fills `directions`. A file that is read is byte for byte what [`write_plan`] writes of it again,
+/// with the same trials. Refusals: 1, 2, 8 to 13 and 19.
+pub fn read_plan(file: &[u8], directions: &mut [u8]) -> Result<PlanHead, Refusal> {
     flat::read_plan(file, directions).answer()
 }
 
@@ -388,9 +404,10 @@ pub fn write_map(n: usize, m: usize, grid: &[u8], out: &mut [u8]) -> Result<usiz
     flat::write_map(n, m, grid, out).answer()
 }
 
-/// Writes a plan file to the front of `out` (see [`PLAN_ROOM`]) and returns its length. Refusals: 1, 2, 4 and 14.
-pub fn write_plan(n: usize, m: usize, directions: &[u8], out: &mut [u8]) -> Result<usize, Refusal> {
-    flat::write_plan(n, m, directions, out).answer()
+/// Writes a plan file, with `trials` on record, to the front of `out` (see [`PLAN_ROOM`]) and returns its length. Refusals:
+/// 1, 2, 4, 21 and 14, in this order.
+pub fn write_plan(n: usize, m: usize, directions: &[u8], trials: u32, out: &mut [u8]) -> Result<usize, Refusal> {
+    flat::write_plan(n, m, directions, trials, out).answer()
 }
 
 /// Writes the listing of a map file to the front of `out` (see [`LISTING_ROOM`]) and returns its length. A file that is no map has a listing
@@ -413,7 +430,7 @@ pub fn report_exactly(file: &[u8], out: &mut [u8]) -> Result<usize, Refusal> {
 /// accepted call and else the number of the refusal; the fields after `second` are 0 for a refused one.
 #[allow(clippy::too_many_arguments)]
 pub mod flat {
-    use super::{Decision, Fault, Head, Link, Number, Outcome, Port, Reason, Refusal, Run};
+    use super::{Decision, Fault, Head, Link, Number, Outcome, PlanHead, Port, Reason, Refusal, Run};
 
     /// Of the plan checks, placement and routing.
     #[repr(C)]
@@ -460,16 +477,29 @@ pub mod flat {
         pub next: usize,
     }
 
-    /// Of the file readers.
+    /// Of the map reader.
     #[repr(C)]
     #[derive(Clone, Copy, Debug, PartialEq, Eq)]
-    pub struct FileRead {
+    pub struct MapRead {
         pub number: u32,
         pub place: usize,
         pub second: usize,
         pub rows: usize,
         pub columns: usize,
         pub count: usize,
+    }
+
+    /// Of the plan reader.
+    #[repr(C)]
+    #[derive(Clone, Copy, Debug, PartialEq, Eq)]
+    pub struct PlanRead {
+        pub number: u32,
+        pub place: usize,
+        pub second: usize,
+        pub rows: usize,
+        pub columns: usize,
+        pub count: usize,
+        pub trials: u32,
     }
 
     /// Of the file writers and the listings.
@@ -551,9 +581,16 @@ pub mod flat {
         }
     }
 
-    impl FileRead {
+    impl MapRead {
         pub fn answer(self) -> Result<Head, Refusal> {
             let head = Head { rows: self.rows, columns: self.columns, count: self.count };
+            answer(self.number, self.place, self.second, Some(head))
+        }
+    }
+
+    impl PlanRead {
+        pub fn answer(self) -> Result<PlanHead, Refusal> {
+            let head = PlanHead { rows: self.rows, columns: self.columns, count: self.count, trials: self.trials };
             answer(self.number, self.place, self.second, Some(head))
         }
     }
@@ -687,10 +724,18 @@ pub mod flat {
             down_len: usize,
         ) -> Planned;
         fn chantspruce_read_number(file: Bytes, file_len: usize, at: usize) -> NumberRead;
-        fn chantspruce_read_map(file: Bytes, file_len: usize, grid: BytesMut, grid_len: usize) -> FileRead;
-        fn chantspruce_read_plan(file: Bytes, file_len: usize, directions: BytesMut, directions_len: usize) -> FileRead;
+        fn chantspruce_read_map(file: Bytes, file_len: usize, grid: BytesMut, grid_len: usize) -> MapRead;
+        fn chantspruce_read_plan(file: Bytes, file_len: usize, directions: BytesMut, directions_len: usize) -> PlanRead;
         fn chantspruce_write_map(n: usize, m: usize, grid: Bytes, grid_len: usize, out: BytesMut, out_len: usize) -> Written;
-        fn chantspruce_write_plan(n: usize, m: usize, directions: Bytes, directions_len: usize, out: BytesMut, out_len: usize) -> Written;
+        fn chantspruce_write_plan(
+            n: usize,
+            m: usize,
+            directions: Bytes,
+            directions_len: usize,
+            trials: u32,
+            out: BytesMut,
+            out_len: usize,
+        ) -> Written;
         fn chantspruce_report(file: Bytes, file_len: usize, out: BytesMut, out_len: usize) -> Written;
         fn chantspruce_report_quickly(file: Bytes, file_len: usize, out: BytesMut, out_len: usize) -> Written;
         fn chantspruce_report_exactly(file: Bytes, file_len: usize, out: BytesMut, out_len: usize) -> Written;
@@ -844,11 +889,11 @@ pub mod flat {
         unsafe { chantspruce_read_number(file.as_ptr(), file.len(), at) }
     }
 
-    pub fn read_map(file: &[u8], grid: &mut [u8]) -> FileRead {
+    pub fn read_map(file: &[u8], grid: &mut [u8]) -> MapRead {
         unsafe { chantspruce_read_map(file.as_ptr(), file.len(), grid.as_mut_ptr(), grid.len()) }
     }
 
-    pub fn read_plan(file: &[u8], directions: &mut [u8]) -> FileRead {
+    pub fn read_plan(file: &[u8], directions: &mut [u8]) -> PlanRead {
         unsafe { chantspruce_read_plan(file.as_ptr(), file.len(), directions.as_mut_ptr(), directions.len()) }
     }
 
@@ -856,8 +901,8 @@ pub mod flat {
         unsafe { chantspruce_write_map(n, m, grid.as_ptr(), grid.len(), out.as_mut_ptr(), out.len()) }
     }
 
-    pub fn write_plan(n: usize, m: usize, directions: &[u8], out: &mut [u8]) -> Written {
-        unsafe { chantspruce_write_plan(n, m, directions.as_ptr(), directions.len(), out.as_mut_ptr(), out.len()) }
+    pub fn write_plan(n: usize, m: usize, directions: &[u8], trials: u32, out: &mut [u8]) -> Written {
+        unsafe { chantspruce_write_plan(n, m, directions.as_ptr(), directions.len(), trials, out.as_mut_ptr(), out.len()) }
     }
 
     pub fn report(file: &[u8], out: &mut [u8]) -> Written {

@@ -11,9 +11,12 @@ static uint8_t grid[B], directions[B], across[B], down[B];
 static uint16_t places[B];
 static uint8_t out[CHANTSPRUCE_LISTING_ROOM];
 
-/* 2 x 2 cells with a fault at row 1, column 1, and the plan that sends its path south */
+/* 2 x 2 cells with a fault at row 1, column 1, and the plan that sends its path south: with 300 trials on record, without
+ * any, and with a byte after them */
 static const uint8_t map_file[] = {2, 2, 1, 1, 1};
-static const uint8_t plan_file[] = {2, 2, 1, 1, 1, CHANTSPRUCE_SOUTH};
+static const uint8_t plan_file[] = {2, 2, 1, 1, 1, CHANTSPRUCE_SOUTH, 0xAC, 2};
+static const uint8_t no_trials_file[] = {2, 2, 1, 1, 1, CHANTSPRUCE_SOUTH};
+static const uint8_t long_plan_file[] = {2, 2, 1, 1, 1, CHANTSPRUCE_SOUTH, 0xAC, 2, 0};
 static const uint8_t wrong_plan_file[] = {2, 2, 1, 1, 1, 5};
 static const uint8_t unordered_plan_file[] = {2, 2, 2, 2, 1, CHANTSPRUCE_SOUTH, 1, 1, CHANTSPRUCE_NORTH};
 
@@ -43,6 +46,12 @@ static void print_head(const char *call, chantspruce_head a)
 {
     print_first(call, a.number, a.place, a.second);
     printf(", rows %zu, columns %zu, count %zu\n", a.rows, a.columns, a.count);
+}
+
+static void print_plan_head(chantspruce_plan_head a)
+{
+    print_first("read_plan", a.number, a.place, a.second);
+    printf(", rows %zu, columns %zu, count %zu, trials %u\n", a.rows, a.columns, a.count, (unsigned)a.trials);
 }
 
 static void print_plan(const char *call, chantspruce_plan a)
@@ -76,22 +85,30 @@ static void print_bytes(const char *call, chantspruce_length a)
 
 static void call_readers(void)
 {
-    static const uint8_t numbers[] = {7, 0xAC, 2, 0x82, 0};
+    static const uint8_t numbers[] = {7, 0xAC, 2, 0x82, 0, 0xFF, 0xFF, 0x7F, 0x80, 0x80, 0, 0x80, 0x80};
     print_number(chantspruce_read_number(numbers, sizeof numbers, 1));
     print_number(chantspruce_read_number(numbers, sizeof numbers, 3));
+    print_number(chantspruce_read_number(numbers, sizeof numbers, 5));
+    print_number(chantspruce_read_number(numbers, sizeof numbers, 8));
+    print_number(chantspruce_read_number(numbers, sizeof numbers, 11));
     print_number(chantspruce_read_number(numbers, sizeof numbers, SIZE_MAX));
     print_head("read_map", chantspruce_read_map(map_file, sizeof map_file, grid, B));
-    print_head("read_plan", chantspruce_read_plan(plan_file, sizeof plan_file, directions, B));
-    print_head("read_plan", chantspruce_read_plan(wrong_plan_file, sizeof wrong_plan_file, directions, B));
-    print_head("read_plan", chantspruce_read_plan(unordered_plan_file, sizeof unordered_plan_file, directions, B));
+    print_plan_head(chantspruce_read_plan(plan_file, sizeof plan_file, directions, B));
+    print_plan_head(chantspruce_read_plan(no_trials_file, sizeof no_trials_file, directions, B));
+    print_plan_head(chantspruce_read_plan(long_plan_file, sizeof long_plan_file, directions, B));
+    print_plan_head(chantspruce_read_plan(wrong_plan_file, sizeof wrong_plan_file, directions, B));
+    print_plan_head(chantspruce_read_plan(unordered_plan_file, sizeof unordered_plan_file, directions, B));
 }
 
 static void call_writers(void)
 {
     print_bytes("write_map", chantspruce_write_map(2, 2, grid, B, out, sizeof out));
     print_bytes("write_map", chantspruce_write_map(2, 2, grid, B, out, 4));
-    print_bytes("write_plan", chantspruce_write_plan(2, 2, directions, B, out, sizeof out));
-    print_bytes("write_plan", chantspruce_write_plan(2, 3, directions, B - 1, out, sizeof out));
+    print_bytes("write_plan", chantspruce_write_plan(2, 2, directions, B, 2097151, out, sizeof out));
+    print_plan_head(chantspruce_read_plan(out, 9, directions, B));
+    print_bytes("write_plan", chantspruce_write_plan(2, 2, directions, B, 2097152, out, 8));
+    print_bytes("write_plan", chantspruce_write_plan(2, 2, directions, B, 2097151, out, 8));
+    print_bytes("write_plan", chantspruce_write_plan(2, 3, directions, B - 1, 300, out, sizeof out));
 }
 
 /* Prints what a run has written at the fault of the first map. */
@@ -154,10 +171,11 @@ static void call_quickly(void)
     print_listing("report_quickly", chantspruce_report_quickly(map_file, sizeof map_file, out, sizeof out));
     print_bytes("report_quickly", chantspruce_report_quickly(map_file, sizeof map_file, out, 10));
     print_head("read_map", chantspruce_read_map(unsettled_map_file, sizeof unsettled_map_file, grid, B));
-    print_plan("plan_quickly", chantspruce_plan_quickly(3, 3, grid, B, directions, B, 3));
-    print_bytes("write_plan", chantspruce_write_plan(3, 3, directions, B, out, sizeof out));
+    chantspruce_plan found = chantspruce_plan_quickly(3, 3, grid, B, directions, B, 3);
+    print_plan("plan_quickly", found);
+    print_bytes("write_plan", chantspruce_write_plan(3, 3, directions, B, found.count, out, sizeof out));
     print_plan("plan_quickly", chantspruce_plan_quickly(3, 3, grid, B, directions, B, 2));
-    print_bytes("write_plan", chantspruce_write_plan(3, 3, directions, B, out, sizeof out));
+    print_bytes("write_plan", chantspruce_write_plan(3, 3, directions, B, 0, out, sizeof out));
 }
 
 /* The exact planner, which takes no limit and counts no trials: the first map, one that takes chantspruce_plan_repair 13
@@ -176,10 +194,10 @@ static void call_exactly(void)
     print_head("read_map", chantspruce_read_map(three_faults_file, sizeof three_faults_file, grid, B));
     print_plan("plan_repair", chantspruce_plan_repair(2, 2, grid, B, directions, B, 12));
     print_plan("plan_exactly", chantspruce_plan_exactly(2, 2, grid, B, directions, B));
-    print_bytes("write_plan", chantspruce_write_plan(2, 2, directions, B, out, sizeof out));
+    print_bytes("write_plan", chantspruce_write_plan(2, 2, directions, B, 0, out, sizeof out));
     print_head("read_map", chantspruce_read_map(no_plan_file, sizeof no_plan_file, grid, B));
     print_plan("run_exactly", chantspruce_run_exactly(1, 1, grid, B, directions, B, places, B, across, B, down, B));
-    print_bytes("write_plan", chantspruce_write_plan(1, 1, directions, B, out, sizeof out));
+    print_bytes("write_plan", chantspruce_write_plan(1, 1, directions, B, 0, out, sizeof out));
     print_listing("report_exactly", chantspruce_report_exactly(no_plan_file, sizeof no_plan_file, out, sizeof out));
 }
 

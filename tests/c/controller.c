@@ -45,6 +45,7 @@ static const char *reason(uint32_t number)
         "a fourth switch",
         "a record is out of row order",
         "a dead processor that is not inside the array",
+        "too many trials to be written",
     };
     return number < sizeof reasons / sizeof reasons[0] ? reasons[number] : "an unknown number";
 }

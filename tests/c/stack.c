@@ -18,7 +18,8 @@ static chantspruce_fault faults[3];
 /* 4 x 4 cells: of the three faults inside, the quick planner settles the first and takes three trials for the others; the
  * exact planner comes to try one direction of a fault that has two */
 static const uint8_t map_file[] = {4, 4, 7, 0, 1, 1, 4, 2, 0, 2, 1, 4, 3, 4, 5, 5, 3};
-static const uint8_t plan_file[] = {4, 4, 3, 1, 4, CHANTSPRUCE_EAST, 2, 1, CHANTSPRUCE_SOUTH, 4, 3, CHANTSPRUCE_NORTH};
+static const uint8_t plan_file[] = {4, 4, 3, 1, 4, CHANTSPRUCE_EAST, 2, 1, CHANTSPRUCE_SOUTH, 4, 3, CHANTSPRUCE_NORTH,
+                                    0xFF, 0xFF, 0x7F};
 
 /* THE CALLS. Each is accepted, in the order of the table below. */
 
@@ -31,7 +32,7 @@ static void call_nothing(void)
 
 static void call_read_number(void)
 {
-    number = chantspruce_read_number(map_file, sizeof map_file, 0).number;
+    number = chantspruce_read_number(plan_file, sizeof plan_file, sizeof plan_file - 3).number;
 }
 
 static void call_read_map(void)
@@ -51,7 +52,7 @@ static void call_write_map(void)
 
 static void call_write_plan(void)
 {
-    number = chantspruce_write_plan(4, 4, directions, B, out, sizeof out).number;
+    number = chantspruce_write_plan(4, 4, directions, B, 2097151, out, sizeof out).number;
 }
 
 static void call_plan_repair(void)

@@ -1,5 +1,5 @@
-//! Document 01's worked maps, some with dead processors and some for the quick and the exact planner, on which the reference
-//! itself is tried before it judges the library.
+//! Document 01's worked maps, some with dead processors and some for the quick and the exact planner, and bytes of files, on
+//! which the reference itself is tried before it judges the library.
 
 use crate::reference::{self, Cell, Decision, LENGTH, Outcome, Planner, decide, position, search_all, settle_and_search};
 
@@ -166,7 +166,43 @@ fn refusals_hold() -> bool {
     let dead = told(&[2, 2, 0, 1, 0, 1]) == Some((20, 4)) && told(&[2, 2, 1, 1, 1, 1, 1, 1]) == Some((11, 6));
     let second = told(&[2, 2, 0, 0]) == Some((12, 3)) && told(&[2, 2, 0, 128]) == Some((8, 4));
     let dead_order = told(&[2, 2, 0, 2, 2, 1, 1, 1]) == Some((19, 6)) && told(&[2, 2, 1, 2, 2, 1, 1, 1]).is_none();
-    numbers && order && dead && second && dead_order
+    let count = told(&[2, 2, 0xFF, 0xFF, 0x7F, 1, 1]) == Some((8, 7)) && told(&[2, 2, 0x81, 0x80, 0, 1, 1]) == Some((9, 2));
+    numbers && order && dead && second && dead_order && count
+}
+
+/// Numbers of one to three bytes, their edges, and bytes of no number.
+fn numbers_hold() -> bool {
+    let told = |file: &[u8], at: usize| reference::read_number(file, at).map_err(|e| (e.number, e.place));
+    let edges = told(&[127], 0) == Ok((127, 1))
+        && told(&[9, 0x80, 1], 1) == Ok((128, 3))
+        && told(&[0xFF, 0x7F], 0) == Ok((16_383, 2))
+        && told(&[0x80, 0x80, 1], 0) == Ok((16_384, 3))
+        && told(&[0xFF, 0xFF, 0x7F], 0) == Ok((2_097_151, 3));
+    let cut = told(&[5, 0x80], 1) == Err((8, 2)) && told(&[0x80, 0x80], 0) == Err((8, 2)) && told(&[5], 2) == Err((8, 1));
+    let wrong = [[0x80, 0, 5], [0x80, 0x80, 0], [0xFF, 0x80, 0], [0x80, 0x80, 0x80]].map(|file| told(&file, 0));
+    edges && cut && wrong == [Err((9, 0)); 4]
+}
+
+/// T at the end of a plan file, read and written.
+fn trials_hold() -> bool {
+    let mut directions = [9; LENGTH];
+    let mut read = |file: &[u8]| reference::read_plan(file, &mut directions).map(|(_, trials)| trials).map_err(|e| (e.number, e.place));
+    let ends = read(&[2, 2, 1, 1, 1, 1, 0xAC, 2]) == Ok(300)
+        && read(&[2, 2, 1, 1, 1, 1]) == Err((8, 6))
+        && read(&[2, 2, 1, 1, 1, 1, 0x80, 0x80]) == Err((8, 8))
+        && read(&[2, 2, 1, 1, 1, 1, 0x80, 0]) == Err((9, 6))
+        && read(&[2, 2, 1, 1, 1, 1, 0, 0]) == Err((12, 7));
+    let mut plan = [0; LENGTH];
+    plan[33] = 1;
+    let mut out = [7; 9];
+    let mut write = |plan: &[u8], trials: u32, room: usize| {
+        let written = reference::write_plan(2, 2, plan, trials, &mut out[..room]);
+        written.map(|length| out[..length].to_vec()).map_err(|e| (e.number, e.place))
+    };
+    let bytes = write(&plan, 2_097_151, 9) == Ok(vec![2, 2, 1, 1, 1, 1, 0xFF, 0xFF, 0x7F]);
+    let order = write(&plan, 2_097_152, 0) == Err((21, 0)) && write(&plan, 2_097_151, 8) == Err((14, 9));
+    plan[34] = 5;
+    ends && bytes && order && write(&plan, 2_097_152, 0) == Err((4, 34))
 }
 
 /// What does not hold, if anything.
@@ -182,5 +218,7 @@ pub fn failing() -> Option<String> {
         .or((!exact_listings_hold()).then(|| "the listings of the exact planner".to_string()))
         .or((!letters_hold()).then(|| "the across letters".to_string()))
         .or((!refusals_hold()).then(|| "the refusals".to_string()))
+        .or((!numbers_hold()).then(|| "the numbers of files".to_string()))
+        .or((!trials_hold()).then(|| "the trials on record".to_string()))
         .or((position((3, 2)) != 98).then(|| "positions".to_string()))
 }

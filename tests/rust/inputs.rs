@@ -3,8 +3,8 @@
 use chantspruce::Fault;
 
 use crate::reference::{
-    self, Array, Cell, DEAD, DIRECTIONS, Direction, FAULTY, HEALTHY, LENGTH, NO_PROCESSOR, Outcome, Path, Planner, is_faulty, is_outermost,
-    position,
+    self, Array, Cell, DEAD, DIRECTIONS, Direction, FAULTY, HEALTHY, HIGHEST, LENGTH, NO_PROCESSOR, Outcome, Path, Planner, is_faulty,
+    is_outermost, position,
 };
 use std::collections::BTreeSet;
 
@@ -14,6 +14,7 @@ pub struct Case {
     pub n: usize,
     pub m: usize,
     pub limit: u32,
+    pub trials: u32,
     pub cell: usize,
     pub side: usize,
     pub at: usize,
@@ -32,6 +33,30 @@ const BAD_SIZES: [usize; 8] = [0, 31, 32, 255, 257, 1 << 32, (1 << 32) + 1, usiz
 
 /// Lengths that no buffer of 1,024 has.
 const BAD_LENGTHS: [usize; 6] = [0, 1, 32, 1023, 1025, 2048];
+
+/// The lowest and highest numbers of one, two and three bytes. The last has four, which no number of a file has.
+const EDGES: [usize; 7] = [0, 127, 128, 16_383, 16_384, 2_097_151, 2_097_152];
+
+/// Trials that no file has, at the edges of what four and five bytes hold.
+const TOO_MANY: [u32; 8] = [2_097_152, 2_097_153, 1 << 24, (1 << 28) - 1, 1 << 28, 1 << 31, (1 << 31) + 1, u32::MAX];
+
+/// The bytes of no number: cut, with the third top bit set, or not in the shortest form.
+const NO_NUMBERS: [&[u8]; 14] = [
+    &[],
+    &[0x80],
+    &[0xFF],
+    &[0x80, 0x80],
+    &[0xFF, 0xFF],
+    &[0x80, 0],
+    &[0x82, 0],
+    &[0xFF, 0],
+    &[0x80, 0x80, 0],
+    &[0xFF, 0x80, 0],
+    &[0xFF, 0xFF, 0],
+    &[0x80, 0x80, 0x80],
+    &[0xFF, 0xFF, 0xFF],
+    &[0x80, 0x80, 0x80, 1],
+];
 
 /// Trials after which the planner is not asked further, where a case needs to know them.
 pub const ENOUGH: u32 = 2000;
@@ -801,11 +826,18 @@ impl Maker {
 
     // Files.
 
-    /// Every pair of bytes in time, and shorter and longer files between them.
+    /// Every pair of bytes in time, numbers at the edges and bytes of no number, and shorter and longer files between them.
     pub fn for_number(&mut self) -> Case {
         if self.pairs < 1 << 16 && self.one_in(2) {
             self.pairs += 1;
             return Case { file: vec![(self.pairs / 256) as u8, self.pairs as u8], ..Case::default() };
+        }
+        if self.one_in(4) {
+            let (before, after) = (self.below(3), self.pick(&[0, 0, 1, 2]));
+            let mut file = self.noise(before).to_vec();
+            file.extend(self.edge_bytes());
+            file.extend_from_slice(self.noise(after));
+            return Case { file, at: before, ..Case::default() };
         }
         let length = self.below(7);
         let mut file = self.noise(length).to_vec();
@@ -817,6 +849,22 @@ impl Maker {
         Case { file, at, ..Case::default() }
     }
 
+    /// The bytes of a number at the edges of those of a file, or of no number.
+    fn edge_bytes(&mut self) -> Vec<u8> {
+        if self.one_in(2) {
+            return self.pick(&NO_NUMBERS).to_vec();
+        }
+        let mut bytes = Vec::new();
+        reference::push_number(&mut bytes, self.pick(&EDGES));
+        bytes
+    }
+
+    /// Trials that a plan file may have, of one, two and three bytes and at the edges of these.
+    fn trials_on_record(&mut self) -> u32 {
+        let below = self.pick(&[128, 16_384, HIGHEST as usize + 1]);
+        if self.one_in(4) { self.pick(&EDGES[..6]) as u32 } else { self.below(below) as u32 }
+    }
+
     /// Sets a byte to one that matters to a number.
     fn change_byte(&mut self, file: &mut [u8]) {
         if !file.is_empty() {
@@ -825,10 +873,17 @@ impl Maker {
         }
     }
 
-    /// A plan file of these records, or a damaged one.
+    /// A plan file of these records, or a damaged one. Its trials may be wrong or missing, or have bytes after them.
     fn plan_file(&mut self, array: Array, mut records: Vec<[usize; 3]>) -> Vec<u8> {
         self.damage_records(&mut records);
         let mut file = reference::file_of(array, &records);
+        match self.below(8) {
+            0 => file.extend(self.edge_bytes()),
+            _ => reference::push_number(&mut file, self.trials_on_record() as usize),
+        }
+        if self.one_in(16) {
+            file.extend(self.edge_bytes());
+        }
         self.damage_file(&mut file);
         file
     }
@@ -912,7 +967,8 @@ impl Maker {
             let at = self.below(records.len()) + 1;
             records.insert(at, record);
         } else {
-            let wrong = [0, 1, 5, 29, 30, 31, 32, 33, 64, 127, 128, 16_383];
+            // some have the low bits of a right one
+            let wrong = [0, 1, 5, 29, 30, 31, 32, 33, 64, 127, 128, 257, 16_383, 16_384, 16_385, 65_537, 2_097_151, 2_097_152];
             record[self.below(K)] = self.pick(&wrong);
             let at = self.below(records.len());
             records[at] = record;
@@ -921,7 +977,7 @@ impl Maker {
 
     fn spoil_file(&mut self, file: &mut Vec<u8>) {
         let at = self.below(file.len() + 1);
-        match self.below(8) {
+        match self.below(9) {
             0 => file.truncate(at),
             1 => file.extend_from_slice(self.noise(1 + at % 3)),
             2 if at < file.len() => file[at] ^= 1 << self.below(8),
@@ -929,15 +985,26 @@ impl Maker {
             4 => file.insert(at, self.below(256) as u8),
             5 => self.change_byte(&mut file[..at.min(3)]),
             6 if self.one_in(4) => *file = self.noise(at + 4).to_vec(),
+            7 if file.len() > 2 => self.other_count(file),
             _ => self.change_byte(file),
         }
     }
 
-    /// Puts two bytes for the number at an offset: not its shortest form, with both top bits set, or a larger number.
+    /// Puts more bytes for the number at an offset: not its shortest form, with all top bits set, or a larger number.
     fn long_number(&mut self, file: &mut Vec<u8>, at: usize) {
         let second = self.pick(&[0, 0, 1, 127, 128, 255]);
         file[at] |= 128;
         file.insert(at + 1, second);
+        if second >= 128 {
+            let third = self.pick(&[0, 0, 1, 127, 128, 255]);
+            file.insert(at + 2, third);
+        }
+    }
+
+    /// Puts another number for the count of a file, far above what can follow or wrong.
+    fn other_count(&mut self, file: &mut Vec<u8>) {
+        let bytes = self.edge_bytes();
+        file.splice(2..3, bytes);
     }
 
     fn map_file(&mut self, mut case: Case) -> Case {
@@ -1019,8 +1086,10 @@ impl Maker {
     pub fn for_plan_writer(&mut self) -> Case {
         let mut case = self.any_directions();
         let array = Array { rows: case.n, columns: case.m };
-        let needed = reference::file_of(array, &reference::plan_records(array, &case.directions)).len();
+        let trials = self.trials_on_record();
+        let needed = reference::plan_file_of(array, &reference::plan_records(array, &case.directions), trials as usize).len();
         case.out = self.room(needed);
+        case.trials = if self.one_in(8) { self.pick(&TOO_MANY) } else { trials };
         self.spoil(&mut case, 4, &[Maker::bad_size, Maker::other_size, Maker::bad_length, Maker::bad_direction, Maker::lost_direction]);
         case
     }

@@ -2,8 +2,11 @@
 
 use crate::Buffers;
 use crate::inputs::{Case, ENOUGH, Maker};
-use crate::reference::{self, Array, Decision, Planner, decide, search_all, settle_and_search};
+use crate::reference::{self, Array, Decision, HIGHEST, Planner, decide, search_all, settle_and_search};
 use chantspruce::{Reason, flat};
+
+/// The values of an answer, with 0 for those that it does not have.
+type Values = [usize; 4];
 
 /// An answer as plain numbers: the number of the refusal (0 for an accepted call), its two places, and the values.
 #[derive(Clone, Copy, Debug, PartialEq, Eq)]
@@ -11,7 +14,7 @@ pub struct Answer {
     pub number: u32,
     place: usize,
     second: usize,
-    values: [usize; 3],
+    values: Values,
 }
 
 pub struct Operation {
@@ -53,12 +56,22 @@ const SPENT_REPAIRED: u32 = 114;
 const SPENT_BEYOND: u32 = 115;
 const PLANS_DIFFER: u32 = 116;
 
+/// Kinds of answers about a number or the trials on record: accepted, by the bytes of these, or refused.
+const TWO_BYTES: u32 = 117;
+const THREE_BYTES: u32 = 118;
+const NO_TRIALS: u32 = 119;
+const DIRECTION_AND_TRIALS: u32 = 120;
+const TRIALS_AND_ROOM: u32 = 121;
+
 /// Added to the kind of an outcome of the quick and of the exact planner where there is an inner fault: the quick one settles
 /// none of them, some or all.
 /// Each is a multiple of the first, which is above all kinds that have no addition.
 const NONE_SETTLED: u32 = 200;
 const SOME_SETTLED: u32 = 400;
 const ALL_SETTLED: u32 = 600;
+
+/// Added to the kind of a refusal where it is the trials of a plan file that are refused.
+const IN_TRIALS: u32 = 800;
 
 /// Added to the kind of an accepted answer, repaired and spent among them, of a map with a dead processor; to that of a refusal and of beyond
 /// repair where with ordinary faults in place of the dead processors, and at most `ENOUGH` trials, the answer is of another kind; and to that
@@ -84,7 +97,13 @@ pub fn kind_name(kind: u32) -> String {
         SPENT_REPAIRED => "the first spent, repaired".to_string(),
         SPENT_BEYOND => "the first spent, beyond repair".to_string(),
         PLANS_DIFFER => "plans that differ".to_string(),
+        TWO_BYTES => "accepted, of two bytes".to_string(),
+        THREE_BYTES => "accepted, of three bytes".to_string(),
+        NO_TRIALS => "refused 8, no trials".to_string(),
+        DIRECTION_AND_TRIALS => "refused 4, too many trials too".to_string(),
+        TRIALS_AND_ROOM => "refused 21, no room either".to_string(),
         DEAD.. => format!("{}, dead", kind_name(kind - DEAD)),
+        IN_TRIALS.. => format!("{}, in the trials", kind_name(kind - IN_TRIALS)),
         ALL_SETTLED.. => format!("{}, all settled", kind_name(kind - ALL_SETTLED)),
         SOME_SETTLED.. => format!("{}, some settled", kind_name(kind - SOME_SETTLED)),
         NONE_SETTLED.. => format!("{}, none settled", kind_name(kind - NONE_SETTLED)),
@@ -147,12 +166,12 @@ fn extent(array: Array, grid: &[u8]) -> u32 {
 /// directions pass the plan check.
 fn by_verdicts(answer: &Answer, _: &Case) -> u32 {
     match answer.values {
-        [_, 1, 0] => NO_PLAN,
-        [1, 1, _] => BOTH_REPAIRED,
-        [2, 2, _] => BOTH_BEYOND,
-        [3, 3, _] => BOTH_SPENT,
-        [3, _, _] => FIRST_SPENT,
-        [_, 3, _] => QUICK_SPENT,
+        [_, 1, 0, _] => NO_PLAN,
+        [1, 1, ..] => BOTH_REPAIRED,
+        [2, 2, ..] => BOTH_BEYOND,
+        [3, 3, ..] => BOTH_SPENT,
+        [3, ..] => FIRST_SPENT,
+        [_, 3, ..] => QUICK_SPENT,
         _ => VERDICTS_DIFFER,
     }
 }
@@ -161,13 +180,67 @@ fn by_verdicts(answer: &Answer, _: &Case) -> u32 {
 /// the same.
 fn by_decision(answer: &Answer, _: &Case) -> u32 {
     match answer.values {
-        [3, 1, _] => SPENT_REPAIRED,
-        [3, 2, _] => SPENT_BEYOND,
-        [1, 1, 1] => BOTH_REPAIRED,
-        [2, 2, 1] => BOTH_BEYOND,
-        [1, 1, _] | [2, 2, _] => PLANS_DIFFER,
+        [3, 1, ..] => SPENT_REPAIRED,
+        [3, 2, ..] => SPENT_BEYOND,
+        [1, 1, 1, _] => BOTH_REPAIRED,
+        [2, 2, 1, _] => BOTH_BEYOND,
+        [1, 1, ..] | [2, 2, ..] => PLANS_DIFFER,
         _ => VERDICTS_DIFFER,
     }
+}
+
+/// The kind of an accepted answer by how many bytes a number has.
+fn by_bytes(bytes: usize) -> u32 {
+    match bytes {
+        3 => THREE_BYTES,
+        2 => TWO_BYTES,
+        _ => 0,
+    }
+}
+
+/// How many bytes the number has that is written for these trials.
+fn bytes_of(trials: usize) -> usize {
+    let mut bytes = Vec::new();
+    reference::push_number(&mut bytes, trials);
+    bytes.len()
+}
+
+/// The kind of the number reader's answer: accepted numbers by their bytes.
+fn by_value(answer: &Answer, after: &Case) -> u32 {
+    if answer.number == 0 { by_bytes(answer.values[1] - after.at) } else { answer.number }
+}
+
+/// The kind of a plan file's answer: accepted ones by the bytes of the trials, refusals in the trials apart from others.
+fn by_plan_file(answer: &Answer, after: &Case) -> u32 {
+    match (answer.number, trials_part(&after.file)) {
+        (0, _) => by_bytes(bytes_of(answer.values[3])),
+        (8, Some(at)) if at == after.file.len() => NO_TRIALS,
+        (number @ (8 | 9), Some(_)) => IN_TRIALS + number,
+        (number, _) => number,
+    }
+}
+
+/// The offset after the paths of a plan file, where these are accepted.
+fn trials_part(file: &[u8]) -> Option<usize> {
+    let at = list_end(file, 3)?;
+    let with_none = [&file[..at], &[0]].concat();
+    reference::read_plan(&with_none, &mut [0; reference::LENGTH]).is_ok().then_some(at)
+}
+
+/// The kind of the plan writer's answer: accepted ones by the bytes of the trials, refusals also by the next test.
+fn by_plan_written(answer: &Answer, after: &Case) -> u32 {
+    match answer.number {
+        0 => by_bytes(bytes_of(after.trials as usize)),
+        4 if after.trials > HIGHEST => DIRECTION_AND_TRIALS,
+        21 if after.out.len() < paths_length(after) => TRIALS_AND_ROOM,
+        number => number,
+    }
+}
+
+/// The length of a plan file without its trials.
+fn paths_length(case: &Case) -> usize {
+    let array = Array { rows: case.n, columns: case.m };
+    reference::file_of(array, &reference::plan_records(array, &case.directions)).len()
 }
 
 /// The kind of a map file's answer: refusals in the second list apart from those in the first.
@@ -185,15 +258,21 @@ fn by_map_file(answer: &Answer, after: &Case) -> u32 {
 
 /// The offset after the first list of a map file, where that list is accepted and the file goes on.
 fn second_part(file: &[u8]) -> Option<usize> {
+    let at = list_end(file, 2)?;
+    let first = reference::read_map(&file[..at], &mut [0; reference::LENGTH]);
+    (at < file.len() && first.is_ok()).then_some(at)
+}
+
+/// The offset after the first list of a file, whose records have so many numbers.
+fn list_end(file: &[u8], numbers: u32) -> Option<usize> {
     let number = |at: usize| reference::read_number(file, at).ok();
     let (_, at) = number(0)?;
     let (_, at) = number(at)?;
     let (count, mut at) = number(at)?;
-    for _ in 0..2 * count {
+    for _ in 0..numbers * count {
         at = number(at)?.1;
     }
-    let first = reference::read_map(&file[..at], &mut [0; reference::LENGTH]);
-    (at < file.len() && first.is_ok()).then_some(at)
+    Some(at)
 }
 
 /// Whether the record at an offset has a place of the first list, which ends at `second`.
@@ -250,10 +329,10 @@ fn make_ordinary(grid: &mut [u8]) {
 
 // The answers of the three as plain numbers.
 
-const NO_VALUES: [usize; 3] = [0; 3];
+const NO_VALUES: Values = [0; 4];
 
 /// The reference's.
-fn told<T>(result: Result<T, reference::Refusal>, values: impl Fn(T) -> [usize; 3]) -> Answer {
+fn told<T>(result: Result<T, reference::Refusal>, values: impl Fn(T) -> Values) -> Answer {
     match result {
         Ok(value) => Answer { number: 0, place: 0, second: 0, values: values(value) },
         Err(e) => Answer { number: e.number, place: e.place, second: e.second, values: NO_VALUES },
@@ -261,7 +340,7 @@ fn told<T>(result: Result<T, reference::Refusal>, values: impl Fn(T) -> [usize; 
 }
 
 /// The wrapper's.
-fn said<T>(result: Result<T, chantspruce::Refusal>, values: impl Fn(T) -> [usize; 3]) -> Answer {
+fn said<T>(result: Result<T, chantspruce::Refusal>, values: impl Fn(T) -> Values) -> Answer {
     match result {
         Ok(value) => Answer { number: 0, place: 0, second: 0, values: values(value) },
         Err(e) => Answer { number: number_of(e), place: e.place, second: e.second, values: NO_VALUES },
@@ -291,27 +370,28 @@ fn number_of(refusal: chantspruce::Refusal) -> u32 {
         Reason::FourthSwitch => 18,
         Reason::RecordOrder => 19,
         Reason::DeadPlace => 20,
+        Reason::Trials => 21,
         Reason::Unknown => u32::MAX,
     };
     if refusal.number() == number { number } else { u32::MAX }
 }
 
 /// What was read of a file, where the writer makes the same bytes of it again; else values that no file has.
-fn head_said(head: chantspruce::Head, file: &[u8], write: impl Fn(&mut [u8]) -> Result<usize, chantspruce::Refusal>) -> [usize; 3] {
+fn written_again(values: Values, file: &[u8], write: impl Fn(&mut [u8]) -> Result<usize, chantspruce::Refusal>) -> Values {
     let mut out = [0; chantspruce::PLAN_ROOM];
     match write(&mut out) {
-        Ok(length) if out[..length] == *file => [head.rows, head.columns, head.count],
-        _ => [usize::MAX; 3],
+        Ok(length) if out[..length] == *file => values,
+        _ => [usize::MAX; 4],
     }
 }
 
-fn outcome_told(outcome: reference::Outcome, links: usize) -> [usize; 3] {
+fn outcome_told(outcome: reference::Outcome, links: usize) -> Values {
     match outcome {
-        reference::Outcome::Repaired(trials) => [1, trials as usize, links],
-        reference::Outcome::Beyond(trials) => [2, trials as usize, links],
-        reference::Outcome::Spent(limit) => [3, limit as usize, links],
-        reference::Outcome::Decided(Decision::Repaired) => [1, 0, links],
-        reference::Outcome::Decided(Decision::Beyond) => [2, 0, links],
+        reference::Outcome::Repaired(trials) => [1, trials as usize, links, 0],
+        reference::Outcome::Beyond(trials) => [2, trials as usize, links, 0],
+        reference::Outcome::Spent(limit) => [3, limit as usize, links, 0],
+        reference::Outcome::Decided(Decision::Repaired) => [1, 0, links, 0],
+        reference::Outcome::Decided(Decision::Beyond) => [2, 0, links, 0],
     }
 }
 
@@ -321,29 +401,29 @@ fn run_told(planner: Planner, c: &mut Case) -> Answer {
     told(result, |(outcome, links)| outcome_told(outcome, links))
 }
 
-fn outcome_said(outcome: chantspruce::Outcome, links: usize) -> [usize; 3] {
+fn outcome_said(outcome: chantspruce::Outcome, links: usize) -> Values {
     match outcome {
-        chantspruce::Outcome::Repaired(trials) => [1, trials as usize, links],
-        chantspruce::Outcome::Beyond(trials) => [2, trials as usize, links],
-        chantspruce::Outcome::Spent(limit) => [3, limit as usize, links],
+        chantspruce::Outcome::Repaired(trials) => [1, trials as usize, links, 0],
+        chantspruce::Outcome::Beyond(trials) => [2, trials as usize, links, 0],
+        chantspruce::Outcome::Spent(limit) => [3, limit as usize, links, 0],
     }
 }
 
-fn decision_said(decision: chantspruce::Decision, links: usize) -> [usize; 3] {
+fn decision_said(decision: chantspruce::Decision, links: usize) -> Values {
     match decision {
-        chantspruce::Decision::Repaired => [1, 0, links],
-        chantspruce::Decision::Beyond => [2, 0, links],
+        chantspruce::Decision::Repaired => [1, 0, links, 0],
+        chantspruce::Decision::Beyond => [2, 0, links, 0],
     }
 }
 
-fn link_said(link: chantspruce::Link) -> [usize; 3] {
+fn link_said(link: chantspruce::Link) -> Values {
     let port = match link.port {
         chantspruce::Port::West => 0,
         chantspruce::Port::East => 1,
         chantspruce::Port::North => 2,
         chantspruce::Port::South => 3,
     };
-    [link.position, port, link.switches as usize]
+    [link.position, port, link.switches as usize, 0]
 }
 
 // The library's: every field of its structs.
@@ -353,23 +433,27 @@ fn verdict(a: flat::Verdict) -> Answer {
 }
 
 fn planned(a: flat::Planned) -> Answer {
-    Answer { number: a.number, place: a.place, second: a.second, values: [a.outcome as usize, a.count as usize, a.links] }
+    Answer { number: a.number, place: a.place, second: a.second, values: [a.outcome as usize, a.count as usize, a.links, 0] }
 }
 
 fn followed(a: flat::Followed) -> Answer {
-    Answer { number: a.number, place: a.place, second: a.second, values: [a.position, a.port as usize, a.switches as usize] }
+    Answer { number: a.number, place: a.place, second: a.second, values: [a.position, a.port as usize, a.switches as usize, 0] }
 }
 
 fn number_read(a: flat::NumberRead) -> Answer {
-    Answer { number: a.number, place: a.place, second: a.second, values: [a.value as usize, a.next, 0] }
+    Answer { number: a.number, place: a.place, second: a.second, values: [a.value as usize, a.next, 0, 0] }
 }
 
-fn file_read(a: flat::FileRead) -> Answer {
-    Answer { number: a.number, place: a.place, second: a.second, values: [a.rows, a.columns, a.count] }
+fn map_read(a: flat::MapRead) -> Answer {
+    Answer { number: a.number, place: a.place, second: a.second, values: [a.rows, a.columns, a.count, 0] }
+}
+
+fn plan_read(a: flat::PlanRead) -> Answer {
+    Answer { number: a.number, place: a.place, second: a.second, values: [a.rows, a.columns, a.count, a.trials as usize] }
 }
 
 fn written(a: flat::Written) -> Answer {
-    Answer { number: a.number, place: a.place, second: a.second, values: [a.length, 0, 0] }
+    Answer { number: a.number, place: a.place, second: a.second, values: [a.length, 0, 0, 0] }
 }
 
 /// The kinds of the quick planner and of a run with it. Where all inner faults are settled there is no trial.
@@ -502,19 +586,19 @@ const BOTH_PLANNERS: Operation = Operation {
         let first = reference::plan(search_all, c.n, c.m, &c.grid, &mut c.across, c.limit);
         let quick = reference::plan(settle_and_search, c.n, c.m, &c.grid, &mut c.directions, c.limit);
         let checked = reference::check_plan(c.n, c.m, &c.grid, &c.directions);
-        told(first.and_then(|a| Ok((a, quick?))), |(a, b)| [outcome_told(a, 0)[0], outcome_told(b, 0)[0], usize::from(checked.is_ok())])
+        told(first.and_then(|a| Ok((a, quick?))), |(a, b)| [outcome_told(a, 0)[0], outcome_told(b, 0)[0], usize::from(checked.is_ok()), 0])
     },
     flat: |c, b| {
         let first = planned(flat::plan_repair(c.n, c.m, b.grid.lend(), b.across.lend(), c.limit));
         let quick = planned(flat::plan_quickly(c.n, c.m, b.grid.lend(), b.directions.lend(), c.limit));
         let checked = flat::check_plan(c.n, c.m, b.grid.lend(), b.directions.lend());
-        Answer { values: [first.values[0], quick.values[0], usize::from(checked.number == 0)], ..first }
+        Answer { values: [first.values[0], quick.values[0], usize::from(checked.number == 0), 0], ..first }
     },
     safe: |c, b| {
         let first = chantspruce::plan_repair(c.n, c.m, b.grid.lend(), b.across.lend(), c.limit);
         let quick = chantspruce::plan_quickly(c.n, c.m, b.grid.lend(), b.directions.lend(), c.limit);
         let checked = chantspruce::check_plan(c.n, c.m, b.grid.lend(), b.directions.lend());
-        said(first.and_then(|a| Ok((a, quick?))), |(a, b)| [outcome_said(a, 0)[0], outcome_said(b, 0)[0], usize::from(checked.is_ok())])
+        said(first.and_then(|a| Ok((a, quick?))), |(a, b)| [outcome_said(a, 0)[0], outcome_said(b, 0)[0], usize::from(checked.is_ok()), 0])
     },
     kind: by_verdicts,
     dead: never,
@@ -544,19 +628,19 @@ const EXACT_AND_FIRST: Operation = Operation {
         let first = reference::plan(search_all, c.n, c.m, &c.grid, &mut c.across, c.limit);
         let exact = reference::plan(decide, c.n, c.m, &c.grid, &mut c.directions, 0);
         let same = usize::from(c.across == c.directions);
-        told(first.and_then(|a| Ok((a, exact?))), |(a, b)| [outcome_told(a, 0)[0], outcome_told(b, 0)[0], same])
+        told(first.and_then(|a| Ok((a, exact?))), |(a, b)| [outcome_told(a, 0)[0], outcome_told(b, 0)[0], same, 0])
     },
     flat: |c, b| {
         let first = planned(flat::plan_repair(c.n, c.m, b.grid.lend(), b.across.lend(), c.limit));
         let exact = planned(flat::plan_exactly(c.n, c.m, b.grid.lend(), b.directions.lend()));
         let same = usize::from(b.across.lend() == b.directions.lend());
-        Answer { values: [first.values[0], exact.values[0], same], ..first }
+        Answer { values: [first.values[0], exact.values[0], same, 0], ..first }
     },
     safe: |c, b| {
         let first = chantspruce::plan_repair(c.n, c.m, b.grid.lend(), b.across.lend(), c.limit);
         let exact = chantspruce::plan_exactly(c.n, c.m, b.grid.lend(), b.directions.lend());
         let same = usize::from(b.across.lend() == b.directions.lend());
-        said(first.and_then(|a| Ok((a, exact?))), |(a, b)| [outcome_said(a, 0)[0], decision_said(b, 0)[0], same])
+        said(first.and_then(|a| Ok((a, exact?))), |(a, b)| [outcome_said(a, 0)[0], decision_said(b, 0)[0], same, 0])
     },
     kind: by_decision,
     dead: never,
@@ -599,7 +683,7 @@ const FOLLOW_LINK: Operation = Operation {
     make: Maker::for_link,
     reference: |c| {
         let result = reference::follow_link(c.n, c.m, &c.grid, &c.directions, &c.across, &c.down, c.cell, c.side);
-        told(result, |a| [a.position, a.port, a.switches])
+        told(result, |a| [a.position, a.port, a.switches, 0])
     },
     flat: |c, b| {
         let (grid, directions, across, down) = (b.grid.lend(), b.directions.lend(), b.across.lend(), b.down.lend());
@@ -679,12 +763,12 @@ const READ_NUMBER: Operation = Operation {
     name: "read_number",
     seed: 7,
     make: Maker::for_number,
-    reference: |c| told(reference::read_number(&c.file, c.at), |(value, next)| [value as usize, next, 0]),
+    reference: |c| told(reference::read_number(&c.file, c.at), |(value, next)| [value as usize, next, 0, 0]),
     flat: |c, b| number_read(flat::read_number(b.file.lend(), c.at)),
-    safe: |c, b| said(chantspruce::read_number(b.file.lend(), c.at), |number| [number.value as usize, number.next, 0]),
-    kind: by_number,
+    safe: |c, b| said(chantspruce::read_number(b.file.lend(), c.at), |number| [number.value as usize, number.next, 0, 0]),
+    kind: by_value,
     dead: never,
-    kinds: &[0, 8, 9],
+    kinds: &[0, TWO_BYTES, THREE_BYTES, 8, 9],
     sized: false,
 };
 
@@ -692,12 +776,15 @@ const READ_MAP: Operation = Operation {
     name: "read_map",
     seed: 8,
     make: Maker::for_map_file,
-    reference: |c| told(reference::read_map(&c.file, &mut c.grid), |head| [head.rows, head.columns, head.count]),
-    flat: |_, b| file_read(flat::read_map(b.file.lend(), b.grid.lend())),
+    reference: |c| told(reference::read_map(&c.file, &mut c.grid), |head| [head.rows, head.columns, head.count, 0]),
+    flat: |_, b| map_read(flat::read_map(b.file.lend(), b.grid.lend())),
     safe: |_, b| {
         let read = chantspruce::read_map(b.file.lend(), b.grid.lend());
         let (file, grid) = (b.file.lend(), b.grid.lend());
-        said(read, |head| head_said(head, file, |out| chantspruce::write_map(head.rows, head.columns, grid, out)))
+        said(read, |head| {
+            let values = [head.rows, head.columns, head.count, 0];
+            written_again(values, file, |out| chantspruce::write_map(head.rows, head.columns, grid, out))
+        })
     },
     kind: by_map_file,
     dead: never,
@@ -727,16 +814,22 @@ const READ_PLAN: Operation = Operation {
     name: "read_plan",
     seed: 9,
     make: Maker::for_plan_file,
-    reference: |c| told(reference::read_plan(&c.file, &mut c.directions), |head| [head.rows, head.columns, head.count]),
-    flat: |_, b| file_read(flat::read_plan(b.file.lend(), b.directions.lend())),
+    reference: |c| {
+        let read = reference::read_plan(&c.file, &mut c.directions);
+        told(read, |(head, trials)| [head.rows, head.columns, head.count, trials])
+    },
+    flat: |_, b| plan_read(flat::read_plan(b.file.lend(), b.directions.lend())),
     safe: |_, b| {
         let read = chantspruce::read_plan(b.file.lend(), b.directions.lend());
         let (file, directions) = (b.file.lend(), b.directions.lend());
-        said(read, |head| head_said(head, file, |out| chantspruce::write_plan(head.rows, head.columns, directions, out)))
+        said(read, |head| {
+            let values = [head.rows, head.columns, head.count, head.trials as usize];
+            written_again(values, file, |out| chantspruce::write_plan(head.rows, head.columns, directions, head.trials, out))
+        })
     },
-    kind: by_number,
+    kind: by_plan_file,
     dead: never,
-    kinds: &[0, 1, 2, 8, 9, 10, 11, 12, 13, 19],
+    kinds: &[0, TWO_BYTES, THREE_BYTES, 1, 2, 8, 9, 10, 11, 12, 13, 19, NO_TRIALS, IN_TRIALS + 8, IN_TRIALS + 9],
     sized: true,
 };
 
@@ -744,9 +837,9 @@ const WRITE_MAP: Operation = Operation {
     name: "write_map",
     seed: 10,
     make: Maker::for_map_writer,
-    reference: |c| told(reference::write_map(c.n, c.m, &c.grid, &mut c.out), |length| [length, 0, 0]),
+    reference: |c| told(reference::write_map(c.n, c.m, &c.grid, &mut c.out), |length| [length, 0, 0, 0]),
     flat: |c, b| written(flat::write_map(c.n, c.m, b.grid.lend(), b.out.lend())),
-    safe: |c, b| said(chantspruce::write_map(c.n, c.m, b.grid.lend(), b.out.lend()), |length| [length, 0, 0]),
+    safe: |c, b| said(chantspruce::write_map(c.n, c.m, b.grid.lend(), b.out.lend()), |length| [length, 0, 0, 0]),
     kind: by_number,
     dead: in_grid,
     kinds: &[0, 1, 2, 3, 14, DEAD, DEAD + 3, DEAD + 14],
@@ -757,12 +850,12 @@ const WRITE_PLAN: Operation = Operation {
     name: "write_plan",
     seed: 11,
     make: Maker::for_plan_writer,
-    reference: |c| told(reference::write_plan(c.n, c.m, &c.directions, &mut c.out), |length| [length, 0, 0]),
-    flat: |c, b| written(flat::write_plan(c.n, c.m, b.directions.lend(), b.out.lend())),
-    safe: |c, b| said(chantspruce::write_plan(c.n, c.m, b.directions.lend(), b.out.lend()), |length| [length, 0, 0]),
-    kind: by_number,
+    reference: |c| told(reference::write_plan(c.n, c.m, &c.directions, c.trials, &mut c.out), |length| [length, 0, 0, 0]),
+    flat: |c, b| written(flat::write_plan(c.n, c.m, b.directions.lend(), c.trials, b.out.lend())),
+    safe: |c, b| said(chantspruce::write_plan(c.n, c.m, b.directions.lend(), c.trials, b.out.lend()), |length| [length, 0, 0, 0]),
+    kind: by_plan_written,
     dead: never,
-    kinds: &[0, 1, 2, 4, 14],
+    kinds: &[0, TWO_BYTES, THREE_BYTES, 1, 2, 4, 14, 21, DIRECTION_AND_TRIALS, TRIALS_AND_ROOM],
     sized: true,
 };
 
@@ -770,9 +863,9 @@ const REPORT: Operation = Operation {
     name: "report",
     seed: 12,
     make: Maker::for_report,
-    reference: |c| told(reference::report(search_all, &c.file, &mut c.out), |length| [length, 0, 0]),
+    reference: |c| told(reference::report(search_all, &c.file, &mut c.out), |length| [length, 0, 0, 0]),
     flat: |_, b| written(flat::report(b.file.lend(), b.out.lend())),
-    safe: |_, b| said(chantspruce::report(b.file.lend(), b.out.lend()), |length| [length, 0, 0]),
+    safe: |_, b| said(chantspruce::report(b.file.lend(), b.out.lend()), |length| [length, 0, 0, 0]),
     kind: by_listing,
     dead: |_, kind, before| in_file(search_all, kind, before),
     kinds: &[REPAIRED, BEYOND, SPENT, REFUSED_MAP, 14, DEAD + REPAIRED, DEAD + BEYOND, DEAD + SPENT],
@@ -783,9 +876,9 @@ const REPORT_QUICKLY: Operation = Operation {
     name: "report_quickly",
     seed: 17,
     make: Maker::for_quick_report,
-    reference: |c| told(reference::report(settle_and_search, &c.file, &mut c.out), |length| [length, 0, 0]),
+    reference: |c| told(reference::report(settle_and_search, &c.file, &mut c.out), |length| [length, 0, 0, 0]),
     flat: |_, b| written(flat::report_quickly(b.file.lend(), b.out.lend())),
-    safe: |_, b| said(chantspruce::report_quickly(b.file.lend(), b.out.lend()), |length| [length, 0, 0]),
+    safe: |_, b| said(chantspruce::report_quickly(b.file.lend(), b.out.lend()), |length| [length, 0, 0, 0]),
     kind: by_quick_listing,
     dead: |_, kind, before| in_file(settle_and_search, kind, before),
     kinds: &[
@@ -814,9 +907,9 @@ const REPORT_EXACTLY: Operation = Operation {
     name: "report_exactly",
     seed: 21,
     make: Maker::for_exact_report,
-    reference: |c| told(reference::report(decide, &c.file, &mut c.out), |length| [length, 0, 0]),
+    reference: |c| told(reference::report(decide, &c.file, &mut c.out), |length| [length, 0, 0, 0]),
     flat: |_, b| written(flat::report_exactly(b.file.lend(), b.out.lend())),
-    safe: |_, b| said(chantspruce::report_exactly(b.file.lend(), b.out.lend()), |length| [length, 0, 0]),
+    safe: |_, b| said(chantspruce::report_exactly(b.file.lend(), b.out.lend()), |length| [length, 0, 0, 0]),
     kind: by_quick_listing,
     dead: |_, kind, before| in_file(decide, kind, before),
     kinds: &[

@@ -9,6 +9,9 @@ pub const LENGTH: usize = 1024;
 /// The limit that the listing plans with.
 const LISTING_LIMIT: u32 = 1_000_000;
 
+/// The highest number of a file: three groups of seven bits.
+pub const HIGHEST: u32 = 2_097_151;
+
 /// The marks of a grid.
 pub const HEALTHY: u8 = 0;
 pub const FAULTY: u8 = 1;
@@ -767,12 +770,13 @@ fn count_links(plan: &Planned, grid: &[u8], places: &[u16], track: &Track) -> us
 
 /// The value of the number at an offset, and the offset after it.
 pub fn read_number(file: &[u8], at: usize) -> Result<(u32, usize), Refusal> {
-    match file.get(at..).unwrap_or(&[]) {
-        [] => refuse(8, file.len()),
-        [only, ..] if *only < 128 => Ok((u32::from(*only), at + 1)),
-        [_] => refuse(8, file.len()),
-        [_, 0 | 128.., ..] => refuse(9, at),
-        [low, high, ..] => Ok((u32::from(*low) - 128 + 128 * u32::from(*high), at + 2)),
+    let group = |byte: u8, weight: u32| u32::from(byte % 128) * weight;
+    match *file.get(at..).unwrap_or(&[]) {
+        [low @ ..=127, ..] => Ok((group(low, 1), at + 1)),
+        [128..=255, 0, ..] | [128..=255, 128..=255, 0 | 128..=255, ..] => refuse(9, at),
+        [low, high @ ..=127, ..] => Ok((group(low, 1) + group(high, 128), at + 2)),
+        [low, middle, high, ..] => Ok((group(low, 1) + group(middle, 128) + group(high, 16_384), at + 3)),
+        [] | [_] | [_, _] => refuse(8, file.len()),
     }
 }
 
@@ -864,7 +868,8 @@ pub fn read_map(file: &[u8], grid: &mut [u8]) -> Result<Head, Refusal> {
     Ok(Head { rows: array.rows, columns: array.columns, count: first + second })
 }
 
-pub fn read_plan(file: &[u8], directions: &mut [u8]) -> Result<Head, Refusal> {
+/// Reads a plan file: what a map file's reader returns of it, and T.
+pub fn read_plan(file: &[u8], directions: &mut [u8]) -> Result<(Head, usize), Refusal> {
     test_lengths(&[directions.len()])?;
     let mut reader = Reader { file, at: 0 };
     let array = Array { rows: reader.side()?, columns: reader.side()? };
@@ -888,17 +893,19 @@ pub fn read_plan(file: &[u8], directions: &mut [u8]) -> Result<Head, Refusal> {
         before = Some(start);
         found[position(start)] = direction as u8;
     }
+    let trials = reader.number()?;
     reader.end()?;
     directions.copy_from_slice(&found);
-    Ok(Head { rows: array.rows, columns: array.columns, count })
+    Ok((Head { rows: array.rows, columns: array.columns, count }, trials))
 }
 
-fn push_number(file: &mut Vec<u8>, value: usize) {
-    if value < 128 {
-        file.push(value as u8);
-    } else {
-        file.extend([(value % 128 + 128) as u8, (value / 128) as u8]);
+/// Adds the groups of a number, the low ones first. A number above the highest of a file gets more than three.
+pub fn push_number(file: &mut Vec<u8>, mut value: usize) {
+    while value >= 128 {
+        file.push((value % 128 + 128) as u8);
+        value /= 128;
     }
+    file.push(value as u8);
 }
 
 /// The number of records, and the numbers of each.
@@ -920,6 +927,13 @@ pub fn map_file_of(array: Array, faults: &[[usize; 2]], dead: &[[usize; 2]]) -> 
     if !dead.is_empty() {
         push_records(&mut file, dead);
     }
+    file
+}
+
+/// A plan file: the paths, then T.
+pub fn plan_file_of(array: Array, paths: &[[usize; 3]], trials: usize) -> Vec<u8> {
+    let mut file = file_of(array, paths);
+    push_number(&mut file, trials);
     file
 }
 
@@ -948,13 +962,16 @@ pub fn write_map(n: usize, m: usize, grid: &[u8], out: &mut [u8]) -> Result<usiz
     put(&map_file_of(array, &map_records(array, grid, FAULTY), &map_records(array, grid, DEAD)), out)
 }
 
-pub fn write_plan(n: usize, m: usize, directions: &[u8], out: &mut [u8]) -> Result<usize, Refusal> {
+pub fn write_plan(n: usize, m: usize, directions: &[u8], trials: u32, out: &mut [u8]) -> Result<usize, Refusal> {
     let array = test_size(n, m)?;
     test_lengths(&[directions.len()])?;
     if let Some(p) = lowest(|c, p| directions[p] > 4 || (directions[p] != 0 && !array.is_inner(c))) {
         return refuse(4, p);
     }
-    put(&file_of(array, &plan_records(array, directions)), out)
+    if trials > HIGHEST {
+        return refuse(21, 0);
+    }
+    put(&plan_file_of(array, &plan_records(array, directions), trials as usize), out)
 }
 
 // The listing.

@@ -1209,21 +1209,32 @@ pub fn repair_run(
 
 // The map reader.
 
-fn read_number(s: &[u8], at: usize) -> Result<(u32, usize), Refusal> {
+/// At most so many groups from an offset on, of a number that begins at `start`.
+fn read_groups(s: &[u8], start: usize, groups: usize, at: usize) -> Result<(u32, usize), Refusal> {
+    if groups == 0 {
+        return refuse(9, start, 0);
+    }
     let Some(&low) = s.get(at) else {
         return refuse(8, s.len(), 0);
     };
-    let next = at + 1;
     if low < 128 {
-        return Ok((low as u32, next));
+        return Ok((low as u32, at + 1));
     }
-    let Some(&high) = s.get(next) else {
+    let (rest, next) = read_groups(s, start, groups - 1, at + 1)?;
+    if rest == 0 {
+        return refuse(9, start, 0);
+    }
+    Ok((low as u32 - 128 + 128 * rest, next))
+}
+
+fn read_number(s: &[u8], at: usize) -> Result<(u32, usize), Refusal> {
+    let Some(&first) = s.get(at) else {
         return refuse(8, s.len(), 0);
     };
-    if high >= 128 || high == 0 {
-        return refuse(9, at, 0);
+    if first < 128 {
+        return Ok((first as u32, at + 1));
     }
-    Ok((low as u32 - 128 + 128 * high as u32, at + 2))
+    read_groups(s, at, 3, at)
 }
 
 fn read_size(s: &[u8], at: usize) -> Result<(usize, usize), Refusal> {

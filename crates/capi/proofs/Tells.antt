@@ -32,12 +32,15 @@ use Rattle.formats.specs.declared.Kind.the-variants.{Map, Plan}
 use Rattle.formats.specs.declared.Number.{Number}
 use Rattle.formats.proofs.Numbered.{number-numbered}
 use Rattle.readers.specs.declared.FileRead.{FileRead}
+use Rattle.readers.specs.declared.MapRead.{MapRead}
 use Rattle.readers.proofs.Numbered.{file-numbered}
 use Rattle.writers.specs.declared.FileWritten.{FileWritten}
 use Rattle.writers.proofs.Numbered.{write-numbered, text-numbered}
 use Rattle.listing.specs.Listing.{listing}
-use Rattle.capi.specs.Flat.{flat-verdict, flat-outcome, flat-decision, flat-answer, run-of, flat-run, flat-link, flat-number, flat-head, flat-length}
-use Rattle.capi.specs.Tells.{by-number, verdict-tells, link-tells, number-tells, head-tells, length-tells, plan-tells, Kept, Answer-kept, Nothing-lost}
+use Rattle.capi.specs.Flat.{flat-verdict, flat-outcome, flat-decision, flat-answer, run-of, flat-run, flat-link}
+use Rattle.capi.specs.Flat.{flat-number, flat-head, flat-plan-head, flat-length}
+use Rattle.capi.specs.Tells.{by-number, verdict-tells, link-tells, number-tells, head-tells, plan-head-tells, length-tells}
+use Rattle.capi.specs.Tells.{plan-tells, Kept, Answer-kept, Nothing-lost}
 use Rattle.array.specs.Tests as tests
 use Rattle.array.specs.declared.Verdict.the-variants as verdict
 use Rattle.track.specs.Follower as links
@@ -48,6 +51,8 @@ use Rattle.formats.specs.Number as numbers
 use Rattle.formats.specs.declared.Number.the-variants as number
 use Rattle.readers.specs.Reading as readers
 use Rattle.readers.specs.declared.FileRead.the-variants as reader
+use Rattle.readers.specs.declared.MapRead.the-variants as map
+use Rattle.readers.proofs.Numbered as read
 use Rattle.writers.specs.Writing as writers
 use Rattle.writers.specs.declared.FileWritten.the-variants as writer
 
@@ -111,10 +116,15 @@ unfolding flat-number
 number-kept (number.Read v next) h = record { numbered = h; same = refl }
 number-kept (number.Refused r) h = record { numbered = h; same = refused r (0 ∷ 0 ∷ []) h }
 
-head-kept : (a : FileRead) → Numbered (readers.told a) → Kept readers.told flat-head head-tells a
+head-kept : (a : MapRead) → Numbered (readers.told-map a) → Kept readers.told-map flat-head head-tells a
 unfolding flat-head
-head-kept (reader.File head) h = record { numbered = h; same = refl }
-head-kept (reader.Refused r) h = record { numbered = h; same = refused r (0 ∷ 0 ∷ 0 ∷ []) h }
+head-kept (map.File head) h = record { numbered = h; same = refl }
+head-kept (map.Refused r) h = record { numbered = h; same = refused r (0 ∷ 0 ∷ 0 ∷ []) h }
+
+plan-head-kept : (a : FileRead) → Numbered (readers.told a) → Kept readers.told flat-plan-head plan-head-tells a
+unfolding flat-plan-head
+plan-head-kept (reader.File head t) h = record { numbered = h; same = refl }
+plan-head-kept (reader.Refused r) h = record { numbered = h; same = refused r (0 ∷ 0 ∷ 0 ∷ 0 ∷ []) h }
 
 length-kept : (a : FileWritten) → Numbered (writers.told a) → Kept writers.told flat-length length-tells a
 unfolding flat-length
@@ -182,9 +192,9 @@ nothing-lost =
       by-run = run-kept;
       links-of-run = run-links-kept;
       by-read-number = λ s at. number-kept _ (number-numbered s at .numbered);
-      by-read-map = λ s grid. head-kept _ (file-numbered Map s grid .numbered);
-      by-read-plan = λ s directions. head-kept _ (file-numbered Plan s directions .numbered);
-      by-write-map = λ n m grid out. length-kept _ (write-numbered Map n m grid out .numbered);
-      by-write-plan = λ n m directions out. length-kept _ (write-numbered Plan n m directions out .numbered);
+      by-read-map = λ s grid. head-kept _ (read.map-numbered (readers.read-file Map s grid .0) (file-numbered Map s grid .numbered));
+      by-read-plan = λ s directions. plan-head-kept _ (file-numbered Plan s directions .numbered);
+      by-write-map = λ n m grid out. length-kept _ (write-numbered Map n m grid 0 out .numbered);
+      by-write-plan = λ n m directions trials out. length-kept _ (write-numbered Plan n m directions trials out .numbered);
       by-report = λ pl s out. length-kept _ (text-numbered (listing pl s) out .numbered);
     }

@@ -15,18 +15,21 @@ use Rattle.runs.specs.Run.{run-answer, run-links, Ran-as}
 use Rattle.runs.specs.declared.Ran.{Ran}
 use Rattle.formats.specs.declared.Number.{Number}
 use Rattle.readers.specs.declared.FileRead.{FileRead}
+use Rattle.readers.specs.declared.MapRead.{MapRead}
 use Rattle.writers.specs.declared.FileWritten.{FileWritten}
 use Rattle.capi.specs.declared.ChantspruceVerdict.{ChantspruceVerdict}
 use Rattle.capi.specs.declared.ChantsprucePlan.{ChantsprucePlan}
 use Rattle.capi.specs.declared.ChantspruceLink.{ChantspruceLink}
 use Rattle.capi.specs.declared.ChantspruceNumber.{ChantspruceNumber}
 use Rattle.capi.specs.declared.ChantspruceHead.{ChantspruceHead}
+use Rattle.capi.specs.declared.ChantsprucePlanHead.{ChantsprucePlanHead}
 use Rattle.capi.specs.declared.ChantspruceLength.{ChantspruceLength}
 use Rattle.array.specs.declared.Verdict.the-variants as verdict
 use Rattle.track.specs.declared.Followed.the-variants as follow
 use Rattle.repair.specs.declared.Answer.the-variants as answer
 use Rattle.formats.specs.declared.Number.the-variants as numbers
 use Rattle.readers.specs.declared.FileRead.the-variants as reader
+use Rattle.readers.specs.declared.MapRead.the-variants as map
 use Rattle.writers.specs.declared.FileWritten.the-variants as writer
 
 unfoldable pub flat-verdict : Verdict → ChantspruceVerdict
@@ -79,11 +82,18 @@ flat-number (numbers.Read v next) = record { number = 0; place = 0; second = 0; 
 flat-number (numbers.Refused r) =
     record { number = r .number; place = r .place; second = r .second; value = 0; next = 0 }
 
-unfoldable pub flat-head : FileRead → ChantspruceHead
-flat-head (reader.File h) =
+unfoldable pub flat-head : MapRead → ChantspruceHead
+flat-head (map.File h) =
     record { number = 0; place = 0; second = 0; rows = h .rows; columns = h .columns; count = h .count }
-flat-head (reader.Refused r) =
+flat-head (map.Refused r) =
     record { number = r .number; place = r .place; second = r .second; rows = 0; columns = 0; count = 0 }
+
+-- T-06. Of a plan, with T.
+unfoldable pub flat-plan-head : FileRead → ChantsprucePlanHead
+flat-plan-head (reader.File h t) =
+    record { number = 0; place = 0; second = 0; rows = h .rows; columns = h .columns; count = h .count; trials = t }
+flat-plan-head (reader.Refused r) =
+    record { number = r .number; place = r .place; second = r .second; rows = 0; columns = 0; count = 0; trials = 0 }
 
 unfoldable pub flat-length : FileWritten → ChantspruceLength
 flat-length (writer.Length k) = record { number = 0; place = 0; second = 0; length = k }

@@ -21,12 +21,14 @@ use Rattle.formats.specs.Number.{number-at}
 use Rattle.readers.specs.Reading.{read-map, read-plan}
 use Rattle.writers.specs.Writing.{write-map, write-plan}
 use Rattle.listing.specs.Listing.{reported}
-use Rattle.capi.specs.Flat.{flat-verdict, flat-answer, run-of, flat-run, flat-link, flat-number, flat-head, flat-length}
+use Rattle.capi.specs.Flat.{flat-verdict, flat-answer, run-of, flat-run, flat-link}
+use Rattle.capi.specs.Flat.{flat-number, flat-head, flat-plan-head, flat-length}
 use Rattle.capi.specs.declared.ChantspruceVerdict.{ChantspruceVerdict}
 use Rattle.capi.specs.declared.ChantsprucePlan.{ChantsprucePlan}
 use Rattle.capi.specs.declared.ChantspruceLink.{ChantspruceLink}
 use Rattle.capi.specs.declared.ChantspruceNumber.{ChantspruceNumber}
 use Rattle.capi.specs.declared.ChantspruceHead.{ChantspruceHead}
+use Rattle.capi.specs.declared.ChantsprucePlanHead.{ChantsprucePlanHead}
 use Rattle.capi.specs.declared.ChantspruceLength.{ChantspruceLength}
 use Rattle.array.specs.Tests as tests
 use Rattle.track.specs.Follower as links
@@ -61,6 +63,9 @@ number-tells r = by-number (r .number) (r .place) (r .second) (r .value ∷ r .n
 abbrev pub head-tells : ChantspruceHead → Told
 head-tells r = by-number (r .number) (r .place) (r .second) (r .rows ∷ r .columns ∷ r .count ∷ [])
 
+abbrev pub plan-head-tells : ChantsprucePlanHead → Told
+plan-head-tells r = by-number (r .number) (r .place) (r .second) (r .rows ∷ r .columns ∷ r .count ∷ r .trials ∷ [])
+
 abbrev pub length-tells : ChantspruceLength → Told
 length-tells r = by-number (r .number) (r .place) (r .second) (r .length ∷ [])
 
@@ -88,9 +93,9 @@ pub record Nothing-lost : Type 0 where
   pub by-run : (g : Given) → Answer-kept (g .planner) (run-links g) (run-answer g)
   pub links-of-run : (g : Given) → flat-run (run-of g) .links ≡ run-links g
   pub by-read-number : (s : List ℕ) (at : ℕ) → Kept numbers.told flat-number number-tells (number-at s at)
-  pub by-read-map : (s grid : List ℕ) → Kept readers.told flat-head head-tells (read-map s grid .0)
-  pub by-read-plan : (s directions : List ℕ) → Kept readers.told flat-head head-tells (read-plan s directions .0)
+  pub by-read-map : (s grid : List ℕ) → Kept readers.told-map flat-head head-tells (read-map s grid .0)
+  pub by-read-plan : (s directions : List ℕ) → Kept readers.told flat-plan-head plan-head-tells (read-plan s directions .0)
   pub by-write-map : (n m : ℕ) (grid out : List ℕ) → Kept writers.told flat-length length-tells (write-map n m grid out .0)
-  pub by-write-plan : (n m : ℕ) (directions out : List ℕ)
-      → Kept writers.told flat-length length-tells (write-plan n m directions out .0)
+  pub by-write-plan : (n m : ℕ) (directions : List ℕ) (trials : ℕ) (out : List ℕ)
+      → Kept writers.told flat-length length-tells (write-plan n m directions trials out .0)
   pub by-report : (pl : Planner) (s out : List ℕ) → Kept writers.told flat-length length-tells (reported pl s out .0)

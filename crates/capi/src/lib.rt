@@ -4,6 +4,7 @@ use exact::Decision;
 use formats::Number;
 use plans::Fault;
 use readers::FileRead;
+use readers::MapRead;
 use repair::Answer;
 use repair::Planner;
 use track::Followed;
@@ -24,7 +25,7 @@ ghost use Rattle.readers.specs.Reading.{read-map, read-plan};
 ghost use Rattle.writers.specs.Writing.{write-map, write-plan};
 ghost use Rattle.listing.specs.Listing.{reported};
 ghost use Rattle.capi.specs.Flat.{flat-verdict, planned-as, flat-outcome, flat-decision, flat-answer, Ran-flat, flat-link};
-ghost use Rattle.capi.specs.Flat.{flat-number, flat-head, flat-length};
+ghost use Rattle.capi.specs.Flat.{flat-number, flat-head, flat-plan-head, flat-length};
 
 // Every struct begins with `number` (0 where the call is accepted, else the number of the refusal), `place` and `second`. The values
 // after them are 0 where the call is refused.
@@ -70,7 +71,7 @@ pub struct ChantspruceNumber {
     pub next: usize,
 }
 
-// The file readers: N, M and the count of records.
+// The map reader: N, M and the count of records.
 #[repr(C)]
 pub struct ChantspruceHead {
     pub number: u32,
@@ -79,6 +80,18 @@ pub struct ChantspruceHead {
     pub rows: usize,
     pub columns: usize,
     pub count: usize,
+}
+
+// The plan reader: the same and T, the trials on record.
+#[repr(C)]
+pub struct ChantsprucePlanHead {
+    pub number: u32,
+    pub place: usize,
+    pub second: usize,
+    pub rows: usize,
+    pub columns: usize,
+    pub count: usize,
+    pub trials: u32,
 }
 
 // The file writers and the listing: the length written.
@@ -202,11 +215,11 @@ fn flat_number(a: Number) -> ChantspruceNumber
     }
 }
 
-fn flat_head(a: FileRead) -> ChantspruceHead
+fn flat_head(a: MapRead) -> ChantspruceHead
     ensures { λ r. ⌜ r ≡ flat-head a ⌝ }
 {
     match a {
-        FileRead::File(h) => ChantspruceHead {
+        MapRead::File(h) => ChantspruceHead {
             number: 0,
             place: 0,
             second: 0,
@@ -214,13 +227,38 @@ fn flat_head(a: FileRead) -> ChantspruceHead
             columns: h.columns,
             count: h.count,
         },
-        FileRead::Refused(e) => ChantspruceHead {
+        MapRead::Refused(e) => ChantspruceHead {
             number: e.number as u32,
             place: e.place,
             second: e.second,
             rows: 0,
             columns: 0,
             count: 0,
+        },
+    }
+}
+
+fn flat_plan_head(a: FileRead) -> ChantsprucePlanHead
+    ensures { λ r. ⌜ r ≡ flat-plan-head a ⌝ }
+{
+    match a {
+        FileRead::File(h, trials) => ChantsprucePlanHead {
+            number: 0,
+            place: 0,
+            second: 0,
+            rows: h.rows,
+            columns: h.columns,
+            count: h.count,
+            trials,
+        },
+        FileRead::Refused(e) => ChantsprucePlanHead {
+            number: e.number as u32,
+            place: e.place,
+            second: e.second,
+            rows: 0,
+            columns: 0,
+            count: 0,
+            trials: 0,
         },
     }
 }
@@ -504,10 +542,11 @@ pub extern "C" fn chantspruce_read_map(s: &[u8], grid: &mut [u8]) -> Chantspruce
 }
 
 #[no_mangle]
-pub extern "C" fn chantspruce_read_plan(s: &[u8], directions: &mut [u8]) -> ChantspruceHead
-    ensures { λ r. ⌜ (r ≡ flat-head (read-plan (now (s .entry)) (now (directions .entry)) .0)) × (now (directions .exit) ≡ read-plan (now (s .entry)) (now (directions .entry)) .1) ⌝ }
+pub extern "C" fn chantspruce_read_plan(s: &[u8], directions: &mut [u8]) -> ChantsprucePlanHead
+    ensures { λ r. ⌜ (r ≡ flat-plan-head (read-plan (now (s .entry)) (now (directions .entry)) .0))
+        × (now (directions .exit) ≡ read-plan (now (s .entry)) (now (directions .entry)) .1) ⌝ }
 {
-    flat_head(readers::read_plan(s, directions))
+    flat_plan_head(readers::read_plan(s, directions))
 }
 
 #[no_mangle]
@@ -527,11 +566,13 @@ pub extern "C" fn chantspruce_write_plan(
     n: usize,
     m: usize,
     directions: &[u8],
+    trials: u32,
     out: &mut [u8],
 ) -> ChantspruceLength
-    ensures { λ r. ⌜ (r ≡ flat-length (write-plan n m (now (directions .entry)) (now (out .entry)) .0)) × (now (out .exit) ≡ write-plan n m (now (directions .entry)) (now (out .entry)) .1) ⌝ }
+    ensures { λ r. ⌜ (r ≡ flat-length (write-plan n m (now (directions .entry)) trials (now (out .entry)) .0))
+        × (now (out .exit) ≡ write-plan n m (now (directions .entry)) trials (now (out .entry)) .1) ⌝ }
 {
-    flat_length(writers::write_plan(n, m, directions, out))
+    flat_length(writers::write_plan(n, m, directions, trials, out))
 }
 
 #[no_mangle]
