@@ -9,6 +9,7 @@ use exact::Decision;
 use formats::Number;
 use readers::FileRead;
 use readers::Head;
+use readers::MapRead;
 use repair::Answer;
 use repair::Planner;
 use runs::Ran;
@@ -347,7 +348,7 @@ fn say_head(head: Head) {
     show::say_number(head.count);
 }
 
-fn map_into(s: Setup, file: &[u8], out: &mut [u8]) -> FileRead {
+fn map_into(s: Setup, file: &[u8], out: &mut [u8]) -> MapRead {
     let f = lent(s.file, file);
     let g = lent(s.grid, out);
     readers::read_map(&file[..f], &mut out[..g])
@@ -376,7 +377,7 @@ fn sized(s: Setup, head: Head) -> Setup {
 pub fn read_map(s: Setup, file: &[u8], grid: &mut [u8]) -> Setup {
     let mut out = [show::MARK; 1025];
     match map_into(s, file, &mut out) {
-        FileRead::File(head) => {
+        MapRead::File(head) => {
             let g = lent(s.grid, &out);
             show::say(b"map");
             say_head(head);
@@ -384,7 +385,7 @@ pub fn read_map(s: Setup, file: &[u8], grid: &mut [u8]) -> Setup {
             copy(grid, &out, g);
             sized(s, head)
         }
-        FileRead::Refused(r) => {
+        MapRead::Refused(r) => {
             refuse(r, show::is_kept(&out));
             s
         }
@@ -394,10 +395,11 @@ pub fn read_map(s: Setup, file: &[u8], grid: &mut [u8]) -> Setup {
 pub fn read_plan(s: Setup, file: &[u8], directions: &mut [u8]) {
     let mut out = [show::MARK; 1025];
     match plan_file_into(s, file, &mut out) {
-        FileRead::File(head) => {
+        FileRead::File(head, trials) => {
             let d = lent(s.directions, &out);
             show::say(b"plan");
             say_head(head);
+            show::say_number(trials as usize);
             show::show(Shown::Directions, head.rows, head.columns, &out[..d]);
             copy(directions, &out, d);
         }
@@ -460,15 +462,27 @@ pub fn write_map(s: Setup, grid: &[u8], length: usize, file: &mut [u8]) -> Setup
     say_written(s, a, &out, file)
 }
 
-fn write_plan_into(s: Setup, directions: &[u8], length: usize, out: &mut [u8]) -> FileWritten {
+fn write_plan_into(
+    s: Setup,
+    directions: &[u8],
+    trials: u32,
+    length: usize,
+    out: &mut [u8],
+) -> FileWritten {
     let d = lent(s.directions, directions);
     let k = lent(length, out);
-    writers::write_plan(s.n, s.m, &directions[..d], &mut out[..k])
+    writers::write_plan(s.n, s.m, &directions[..d], trials, &mut out[..k])
 }
 
-pub fn write_plan(s: Setup, directions: &[u8], length: usize, file: &mut [u8]) -> Setup {
+pub fn write_plan(
+    s: Setup,
+    directions: &[u8],
+    trials: u32,
+    length: usize,
+    file: &mut [u8],
+) -> Setup {
     let mut out = [show::MARK; 4096];
-    let a = write_plan_into(s, directions, length, &mut out);
+    let a = write_plan_into(s, directions, trials, length, &mut out);
     say_written(s, a, &out, file)
 }
 

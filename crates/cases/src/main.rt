@@ -153,11 +153,11 @@ fn file_call_of(line: &[u8]) -> FileCall {
             return FileCall::ReadPlan;
         }
     }
-    if words::is_word(line, 0, b"write") & words::has_words(line, 3) {
-        if map {
+    if words::is_word(line, 0, b"write") {
+        if map & words::has_words(line, 3) {
             return FileCall::WriteMap;
         }
-        if plan {
+        if plan & words::has_words(line, 4) {
             return FileCall::WritePlan;
         }
     }
@@ -255,12 +255,17 @@ fn call_write_map(line: &[u8], s: Setup, grid: &[u8], file: &mut [u8]) -> Setup 
 }
 
 fn call_write_plan(line: &[u8], s: Setup, directions: &[u8], file: &mut [u8]) -> Setup {
-    let length = words::number(line, 2);
-    if is_room(length) {
-        return calls::write_plan(s, directions, length.value, file);
+    let trials = words::number(line, 2);
+    let length = words::number(line, 3);
+    if !(trials.ok & is_room(length)) {
+        fail();
+        return s;
     }
-    fail();
-    s
+    if 4294967295 < trials.value {
+        fail();
+        return s;
+    }
+    calls::write_plan(s, directions, trials.value as u32, length.value, file)
 }
 
 // A line that reads or writes a file.
@@ -410,7 +415,7 @@ fn answer_all(
     down: &mut [u8],
     file: &mut [u8],
 ) {
-    if 65536 < text.len() {
+    if 131072 < text.len() {
         return;
     }
     let mut s = Setup {
@@ -432,7 +437,7 @@ fn answer_all(
 }
 
 fn main() {
-    let mut text = io::large_buffer();
+    let mut text = [0u8; 131072];
     let n = io::read_full(STDIN_FILENO, &mut text);
     let mut grid = [0u8; 1025];
     let mut directions = [0u8; 1025];

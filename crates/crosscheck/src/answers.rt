@@ -2,6 +2,8 @@
 use array::Verdict;
 use exact::Decision;
 use readers::FileRead;
+use readers::Head;
+use readers::MapRead;
 use repair::Answer;
 use second::buffers;
 use second::checks::Finding;
@@ -137,10 +139,22 @@ pub fn length_of(a: FileWritten) -> usize {
     }
 }
 
-// Whether a reader gives this N, M and count.
-pub fn is_head(a: FileRead, n: usize, m: usize, count: usize) -> bool {
+fn is_head(h: Head, n: usize, m: usize, count: usize) -> bool {
+    ((h.rows == n) & (h.columns == m)) & (h.count == count)
+}
+
+// Whether the reader of maps gives this N, M and count.
+pub fn is_map_head(a: MapRead, n: usize, m: usize, count: usize) -> bool {
     match a {
-        FileRead::File(h) => ((h.rows == n) & (h.columns == m)) & (h.count == count),
+        MapRead::File(h) => is_head(h, n, m, count),
+        MapRead::Refused(_) => false,
+    }
+}
+
+// Whether the reader of plans gives this N, M, count and T.
+pub fn is_plan_head(a: FileRead, n: usize, m: usize, count: usize, trials: u32) -> bool {
+    match a {
+        FileRead::File(h, t) => is_head(h, n, m, count) & (t == trials),
         FileRead::Refused(_) => false,
     }
 }

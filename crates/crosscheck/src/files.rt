@@ -11,7 +11,7 @@ fn is_map(n: usize, m: usize, grid: &[u8], file: &[u8], length: usize) -> bool {
         return false;
     }
     let a = readers::read_map(&file[0..length], &mut back);
-    answers::is_head(a, n, m, answers::count_faults(grid)) & answers::are_same(grid, &back)
+    answers::is_map_head(a, n, m, answers::count_faults(grid)) & answers::are_same(grid, &back)
 }
 
 // A map file, written and read back.
@@ -32,21 +32,33 @@ fn count_paths(directions: &[u8]) -> usize {
     a + b + c + d
 }
 
-// Whether the first bytes of a file are read as these directions.
-fn is_plan(n: usize, m: usize, directions: &[u8], file: &[u8], length: usize) -> bool {
+// T of a plan file, by how many there were before it: in turn of one byte, of two and of three.
+fn trials_of(files: u64) -> u32 {
+    let k = (files % 16256) as u32;
+    match files % 3 {
+        0 => k % 128,
+        1 => 128 + k,
+        _ => 16384 + 128 * k + k % 128,
+    }
+}
+
+// Whether the first bytes of a file are read as these directions and this T.
+fn is_plan(n: usize, m: usize, directions: &[u8], trials: u32, file: &[u8], length: usize) -> bool {
     let mut back = [9u8; 1024];
     if file.len() < length {
         return false;
     }
     let a = readers::read_plan(&file[0..length], &mut back);
-    answers::is_head(a, n, m, count_paths(directions)) & answers::are_same(directions, &back)
+    answers::is_plan_head(a, n, m, count_paths(directions), trials)
+        & answers::are_same(directions, &back)
 }
 
 // A plan file, written and read back.
 pub fn cross_plan(n: usize, m: usize, directions: &[u8], tally: &mut [u64]) {
     let mut file = [9u8; 4096];
-    let length = answers::length_of(writers::write_plan(n, m, directions, &mut file));
-    let same = is_plan(n, m, directions, &file, length);
+    let trials = trials_of(counts::get(tally, counts::PLAN_FILES));
+    let length = answers::length_of(writers::write_plan(n, m, directions, trials, &mut file));
+    let same = is_plan(n, m, directions, trials, &file, length);
     compare(tally, same, counts::PLAN_FILE);
     counts::add(tally, counts::PLAN_FILES, 1);
 }

@@ -14,7 +14,7 @@ use Rattle.track.specs.Ports.{neighbour, stands, stretch-from, ends-link, set-t
 use Rattle.track.specs.Link.{inside, run}
 use Rattle.track.specs.Pieces.{pieces}
 use Rattle.track.specs.Follower.{judged, followed}
-use Rattle.formats.specs.Number.{number-at, bytes-of, size-at}
+use Rattle.formats.specs.Number.{groups-at, groups-of, bytes-of, size-at}
 use Rattle.formats.specs.Records.{healthy-grid, records-along, record-count, file-bytes}
 use Rattle.readers.specs.Reading.{record-at, records-at, read-file}
 use Rattle.writers.specs.Writing.{buffer-test, write-file}
@@ -28,7 +28,7 @@ unfolding
     offer trials clear-of keeps searched planned outcome direction-of directions-written
     through placement letters entry letter across-letters down-letters
     neighbour stands stretch-from ends-link set-to joined inside run pieces judged followed
-    number-at bytes-of size-at healthy-grid records-along record-count file-bytes
+    groups-at groups-of bytes-of size-at healthy-grid records-along record-count file-bytes
     record-at records-at read-file buffer-test write-file
     grid-of directions-of shown
 computing = tt

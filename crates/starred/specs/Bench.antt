@@ -11,7 +11,7 @@ use Rattle.trials.specs.declared.Outcome.the-variants.{Repaired}
 use Rattle.track.specs.Placement.{placement}
 use Rattle.track.specs.Letters.{b, c, d, across-letters, down-letters}
 use Rattle.readers.specs.Reading.{read-map}
-use Rattle.readers.specs.declared.FileRead.the-variants.{File}
+use Rattle.readers.specs.declared.MapRead.the-variants.{File}
 use Rattle.writers.specs.Writing.{write-map}
 use Rattle.writers.specs.declared.FileWritten.the-variants.{Length}
 use Rattle.starred.specs.Grids.{grid-of, directions-of, shown}

@@ -18,7 +18,7 @@ use Rattle.track.specs.Ports.{Wafer}
 use Rattle.track.specs.Follower.{refused, followed}
 use Rattle.track.specs.declared.Followed.the-variants.{Entered}
 use Rattle.readers.specs.Reading.{read-map}
-use Rattle.readers.specs.declared.FileRead.the-variants.{File, Refused}
+use Rattle.readers.specs.declared.MapRead.the-variants.{File, Refused}
 use Rattle.writers.specs.Writing.{write-map}
 use Rattle.writers.specs.declared.FileWritten.the-variants.{Length}
 use Rattle.starred.specs.Grids.{grid-of, directions-of}
