@@ -15,7 +15,7 @@ readable() {
 }
 
 # `ready SCRIPT CRATE` proves and builds the program of a crate on first use and after a change of the sources, which is told on standard error,
-# and sets `program`. It ends the script where there is no proof.
+# and sets `program`. It ends the script where there is no proof. rt runs the program too, for which descriptor 3 is closed.
 ready() {
     program=$root/target/bin/$2
     log=$root/target/$1.log
@@ -31,7 +31,7 @@ ready() {
         exit 2
     fi
     echo "bin/$1: proving and building the program; this takes some minutes the first time" >&2
-    (cd "$root" && rt check "$2" 2>&1) | tee "$log" | grep '^rt:' >&2
+    (cd "$root" && rt check "$2" 2>&1 3<&-) | tee "$log" | grep '^rt:' >&2
     if ! grep -q '^rt: ok' "$log" || [ ! -x "$program" ]; then
         echo "bin/$1: the program is not proved, so it is not run; $log says why" >&2
         exit 2
@@ -66,10 +66,10 @@ meaning() {
         6) echo "$both: the paths from there share a processor" ;;
         7) echo "$both: the paths from there are a near-miss" ;;
         8) echo "byte $2: the file ends early" ;;
-        9) echo "byte $2: a number is longer than two bytes or not in its shortest form" ;;
+        9) echo "byte $2: a number is longer than three bytes or not in its shortest form" ;;
         10) echo "byte $2: a fault is where no processor is, or a path starts where none may" ;;
         11) echo "byte $2: a place is listed a second time" ;;
-        12) echo "byte $2: bytes follow the last record, or the number of dead processors is 0" ;;
+        12) echo "byte $2: bytes follow the last record or the trials, or the number of dead processors is 0" ;;
         13) echo "byte $2: a direction is not 1 to 4" ;;
         14) echo "what is to be written needs room for $2 bytes" ;;
         15) echo "there is no such cell or no such side" ;;
@@ -78,14 +78,16 @@ meaning() {
         18) echo "$here: the link would enter a fourth switch there" ;;
         19) echo "byte $2: a place is out of row order (from the top row down, each row from the left)" ;;
         20) echo "byte $2: a dead processor is not inside the array" ;;
+        21) echo "the trials to be written are more than 2,097,151, the highest number of a file" ;;
         *) echo "place $2: a reason that this script does not know" ;;
     esac
 }
 
-# `tell_refusal SCRIPT FILE TEXT` tells in words on standard error why a file is no map, where a program's text says that it is refused.
+# `tell_refusal SCRIPT KIND FILE TEXT` tells in words on standard error why a file is no file of its kind, map or plan, where a
+# program's text says that it is refused.
 tell_refusal() {
-    refusal=$(printf '%s\n' "$3" | sed -n 's/.*refused \([0-9]*\)\( at byte\)\{0,1\} \([0-9]*\).*/\1 \3/p')
+    refusal=$(printf '%s\n' "$4" | sed -n 's/.*refused \([0-9]*\)\( at byte\)\{0,1\} \([0-9]*\).*/\1 \3/p')
     if [ -n "$refusal" ]; then
-        echo "bin/$1: '$2' is no map file: $(meaning "${refusal% *}" "${refusal#* }" 0) (refusal ${refusal% *})" >&2
+        echo "bin/$1: '$3' is no $2 file: $(meaning "${refusal% *}" "${refusal#* }" 0) (refusal ${refusal% *})" >&2
     fi
 }

@@ -7,8 +7,8 @@ mod words;
 
 use array::Refusal;
 use libc::STDIN_FILENO;
-use readers::FileRead;
 use readers::Head;
+use readers::MapRead;
 use repair::Answer;
 use trials::Outcome;
 
@@ -128,7 +128,7 @@ fn main() {
     let k = io::read_full(STDIN_FILENO, &mut buf);
     let mut grid = [0u8; 1024];
     match readers::read_map(&buf[..k], &mut grid) {
-        FileRead::File(head) => draw_map(head, &grid),
-        FileRead::Refused(r) => draw_refusal(r),
+        MapRead::File(head) => draw_map(head, &grid),
+        MapRead::Refused(r) => draw_refusal(r),
     }
 }

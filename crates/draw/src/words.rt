@@ -136,7 +136,7 @@ pub fn reason(number: u8) {
     match number {
         1 => output::text(b"the number of rows or columns is not 1 to 30"),
         8 => output::text(b"the file ends too early"),
-        9 => output::text(b"a number is longer than two bytes or not in its shortest form"),
+        9 => output::text(b"a number is longer than three bytes or not in its shortest form"),
         10 => output::text(b"a fault is at a place without a processor"),
         11 => output::text(b"a fault is listed a second time"),
         12 => output::text(b"bytes follow the last place, or a second count is 0"),

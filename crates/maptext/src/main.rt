@@ -4,7 +4,7 @@ use array::Refusal;
 use libc::STDERR_FILENO;
 use libc::STDIN_FILENO;
 use libc::STDOUT_FILENO;
-use readers::FileRead;
+use readers::MapRead;
 use writers::FileWritten;
 
 // Tells words.
@@ -36,8 +36,8 @@ fn convert(s: &[u8]) {
     let mut grid = [2u8; 1024];
     let mut text = [0u8; 2048];
     match readers::read_map(s, &mut grid) {
-        FileRead::File(head) => print_text(head.rows, head.columns, &grid, &mut text),
-        FileRead::Refused(r) => say_refusal(r),
+        MapRead::File(head) => print_text(head.rows, head.columns, &grid, &mut text),
+        MapRead::Refused(r) => say_refusal(r),
     }
 }
 
