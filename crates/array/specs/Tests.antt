@@ -52,7 +52,7 @@ told (Refused r) = refuses-as r
 
 -- the documents' numbers of refusals are 1 to this one
 abbrev pub last-number : ℕ
-last-number = 21
+last-number = 24
 
 -- no refusal, or one with such a number
 abbrev pub Numbered : Told → Type 0
