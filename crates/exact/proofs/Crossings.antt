@@ -3,10 +3,9 @@
 -- Assumes nothing.
 use Prim.Native.Nat.{ℕ, _≤_, _<_}
 use mathlib.Core.Path.{_≡_, sym, ap, _∙_}
-use mathlib.Core.Bool.{true, true≢false}
+use mathlib.Core.Bool.{true}
 use mathlib.Core.List.{List}
 use native.Mathlib.Omega.{arith}
-use borrow.Author.Tests.{le-leb}
 use lib.Dec.{eqb}
 use lib.ListN.{length}
 use Rattle.array.specs.Place.{row, column, inner}
@@ -14,11 +13,11 @@ use Rattle.array.proofs.Places.{Inner, inner-holds, inner-between}
 use Rattle.paths.specs.Path.{is-clear, clear, Start}
 use Rattle.paths.specs.Table.{class, entry, byte-of}
 use Rattle.paths.proofs.Entries.{byte-clear}
-use Rattle.paths.proofs.Ways.{Way, south, north, east, west, start-inner}
-use Rattle.paths.proofs.Meeting.{top, bottom, west-end, east-end, overlap, overlap-is-meet}
-use Rattle.paths.proofs.Clashes.{clear-neither, clear-comm}
+use Rattle.paths.proofs.Ways.{south, north, east, west}
+use Rattle.paths.proofs.Clashes.{clear-comm}
 use Rattle.paths.proofs.Agreement.{entry-is-clash}
 use Rattle.plans.proofs.Facts.{ascending-distinct}
+use Rattle.plans.proofs.Spares.{crossed}
 use Rattle.exact.specs.Options.{at, Apart}
 use Rattle.exact.specs.Inner.{clears-on, Sited, Placed}
 use Rattle.exact.specs.Problem.{Crossing, Facing}
@@ -81,19 +80,6 @@ clear-largest n m p d q e s t ne =
         }
 
 module _ (n m : ℕ) (hn : n ≤ 30) (hm : m ≤ 30) where
-  pub crossed : (p d q e : ℕ) → Way d → Way e → Inner n m p → Inner n m q → clear n m p d q e ≡ true
-      → top p d ≤ bottom n q e → top q e ≤ bottom n p d → west-end p d ≤ east-end m q e → west-end q e ≤ east-end m p
-      d → ⊥
-  unfolding overlap
-  crossed p d q e w w′ i j c h1 h2 h3 h4 =
-      let o : overlap n m p d q e ≡ true = rw (
-        le-leb (top p d) (bottom n q e) h1,
-        le-leb (top q e) (bottom n p d) h2,
-        le-leb (west-end p d) (east-end m q e) h3,
-        le-leb (west-end q e) (east-end m p d) h4,
-      ) in
-      true≢false (sym o ∙ overlap-is-meet n m hn hm p d q e w w′ i j ∙ clear-neither n m p d q e c .0)
-
   -- of faults at inner positions
   module _ (count : ℕ) (starts q : ℕ → ℕ) (inside : (k : ℕ) → k < count → inner n m (starts k) ≡ true)
       (apart : Apart count (λ i d j e. clear n m (starts i) d (starts j) e) q) where
@@ -111,22 +97,22 @@ module _ (n m : ℕ) (hn : n ≤ 30) (hm : m ≤ 30) where
       north-west = λ a f h l x y g i.
           let j = place a h in
           let k = place f l in
-          crossed (starts a) 2 (starts f) 4 north west j k (clear-at a f 2 4 h l x y (λ z. omega arith))
+          crossed n m hn hm (starts a) 2 (starts f) 4 north west j k (clear-at a f 2 4 h l x y (λ z. omega arith))
           (omega arith) (omega arith) (omega arith) (omega arith);
       north-east = λ a f h l x y g i.
           let j = place a h in
           let k = place f l in
-          crossed (starts a) 2 (starts f) 3 north east j k (clear-at a f 2 3 h l x y (λ z. omega arith))
+          crossed n m hn hm (starts a) 2 (starts f) 3 north east j k (clear-at a f 2 3 h l x y (λ z. omega arith))
           (omega arith) (omega arith) (omega arith) (omega arith);
       south-west = λ a f h l x y g i.
           let j = place a h in
           let k = place f l in
-          crossed (starts a) 1 (starts f) 4 south west j k (clear-at a f 1 4 h l x y (λ z. omega arith))
+          crossed n m hn hm (starts a) 1 (starts f) 4 south west j k (clear-at a f 1 4 h l x y (λ z. omega arith))
           (omega arith) (omega arith) (omega arith) (omega arith);
       south-east = λ a f h l x y g i.
           let j = place a h in
           let k = place f l in
-          crossed (starts a) 1 (starts f) 3 south east j k (clear-at a f 1 3 h l x y (λ z. omega arith))
+          crossed n m hn hm (starts a) 1 (starts f) 3 south east j k (clear-at a f 1 3 h l x y (λ z. omega arith))
           (omega arith) (omega arith) (omega arith) (omega arith);
     }
 
@@ -134,5 +120,5 @@ module _ (n m : ℕ) (hn : n ≤ 30) (hm : m ≤ 30) where
     facing a b h l x y g i =
         let j = place a h in
         let k = place b l in
-        crossed (starts a) 2 (starts b) 1 north south j k (clear-at a b 2 1 h l x y (λ z. omega arith))
+        crossed n m hn hm (starts a) 2 (starts b) 1 north south j k (clear-at a b 2 1 h l x y (λ z. omega arith))
         (omega arith) (omega arith) (omega arith) (omega arith)

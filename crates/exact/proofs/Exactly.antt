@@ -13,10 +13,10 @@ use Rattle.array.specs.Place.{inner}
 use Rattle.array.specs.Buffer.{buffer, zeros}
 use Rattle.array.proofs.Bools.{by-lt, by-bool, and-true}
 use Rattle.array.proofs.Places.{Inner, inner-holds}
-use Rattle.paths.specs.Path.{is-open, meet, near-miss, clear, Start}
+use Rattle.paths.specs.Path.{is-open, meet, near-miss, clear}
 use Rattle.paths.specs.Table.{Clash-table}
 use Rattle.paths.proofs.Ways.{way}
-use Rattle.paths.proofs.Clashes.{clear-neither, neither-clear, clear-comm}
+use Rattle.paths.proofs.Clashes.{clear-neither, clear-comm}
 use Rattle.plans.specs.Faults.{faults, paired}
 use Rattle.plans.specs.Plan.{Plan, Not-after, First-plan}
 use Rattle.plans.proofs.Facts.{fault-hit, faults-rise, ascending-distinct}
@@ -24,7 +24,6 @@ use Rattle.plans.proofs.Planned.{plan-not-blocked}
 use Rattle.trials.specs.Trials.{Search, found, exhausted}
 use Rattle.trials.specs.Search.{planned, direction-of}
 use Rattle.trials.proofs.Theorems.{trial-rule}
-use Rattle.exact.specs.declared.Decision.{Decision}
 use Rattle.exact.specs.declared.Decision.the-variants.{Repaired, Beyond}
 use Rattle.exact.specs.Options.{at, Not-later}
 use Rattle.exact.specs.Problem.{Covered}
@@ -34,7 +33,7 @@ use Rattle.exact.proofs.Crossings.{clear-largest, inner-largest, start-
 use Rattle.exact.proofs.Cover.{some-pair}
 use Rattle.exact.proofs.Options.{later-then}
 use Rattle.exact.proofs.Pairs.{better-more, stuck-none}
-use Rattle.exact.proofs.Spares.{no-more, spare, spare-below, spares-differ}
+use Rattle.plans.proofs.Spares.{plan-clear, plan-spares}
 
 -- the order of lists, by index
 pub after-later : (xs ys : List ℕ) → length xs ≡ length ys → Not-after xs ys → Not-later (length xs) (at xs) (at ys)
@@ -73,33 +72,11 @@ module _ (n m : ℕ) (grid : List ℕ) where
   abbrev fs : List ℕ
   fs = faults n m grid
 
-  -- of a plan any two paths are clear
-  plan-clear : (xs : List ℕ) → Plan n m grid xs → (i j : ℕ) → i < j → j < length fs
-      → clear n m (at fs i) (at xs i) (at fs j) (at xs j) ≡ true
-  plan-clear xs p i j l h =
-      let many : length xs ≡ length fs = p .one-path .one-each in
-      neither-clear n m (at fs i) (at xs i) (at fs j) (at xs j) (p .no-meeting i j l (omega arith))
-      (p .no-near-miss i j l (omega arith))
-
   ways : (xs : List ℕ) → Plan n m grid xs → (k : ℕ) → k < length fs → (1 ≤ at xs k) × (at xs k ≤ 4)
   ways xs p k l = p .one-path .straight k (omega (arith, p .one-path .one-each))
 
   within : (k : ℕ) → k < length fs → inner n m (at fs k) ≡ true
   within k l = and-true (inner n m (at fs k)) _ (fault-hit n m grid k l .passes) .0
-
-  -- so that there are no more than spares
-  pub plan-spares : (xs : List ℕ) → n ≤ 30 → m ≤ 30 → Plan n m grid xs → length fs ≤ 2 * (n + m)
-  plan-spares xs hn hm p =
-      let place : (k : ℕ) → k < length fs → Inner n m (at fs k) = λ k l. inner-holds n m (at fs k) (within k l) in
-      no-more (2 * (n + m)) (length fs) (λ k. spare n m hn hm (at fs k) (at xs k))
-      (λ k l.
-      let w = ways xs p k l in
-      spare-below n m hn hm (at fs k) (at xs k) (way (at xs k) (w .0) (w .1)) (place k l))
-      (λ i j l h.
-      let v = ways xs p i (omega arith) in
-      let w = ways xs p j h in
-      spares-differ n m hn hm (at fs i) (at xs i) (at fs j) (at xs j) (way (at xs i) (v .0) (v .1))
-      (way (at xs j) (w .0) (w .1)) (place i (omega arith)) (place j h) (plan-clear xs p i j l h))
 
   module _ (placed : Placed n m fs) (table : List ℕ) (tabled : Tabled n m grid fs table) where
     -- two faults' paths are clear on this array exactly where they are on the largest
@@ -118,7 +95,7 @@ module _ (n m : ℕ) (grid : List ℕ) where
         sym
         (same-clear i j (at xs i) (at xs j) (omega arith) h (λ e. omega arith) (ways xs p i (omega arith)) (ways xs p
         j h))
-        ∙ plan-clear xs p i j l h in
+        ∙ plan-clear n m grid xs p i j l h in
         record {
           straight = ways xs p;
           open-path = λ k l.

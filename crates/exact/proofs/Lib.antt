@@ -1,7 +1,6 @@
 pub mod Masks
 pub mod Cover
 pub mod Crossings
-pub mod Spares
 pub mod Options
 pub mod Listing
 pub mod Striking

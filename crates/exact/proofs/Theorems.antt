@@ -1,14 +1,11 @@
 -- The theorems of the exact planner's rule.
 -- Assumes nothing.
-use mathlib.Core.Path.{_≡_}
-use native.Mathlib.Omega.{arith}
 use Rattle.paths.proofs.Ways.{way}
-use Rattle.exact.specs.Theorems.{Two-options, Nothing-lost, Paths-apart, Narrowing-keeps, Spare-each}
+use Rattle.exact.specs.Theorems.{Two-options, Nothing-lost, Paths-apart, Narrowing-keeps}
 use Rattle.exact.proofs.Cover as cover
 use Rattle.exact.proofs.Crossings.{crossing, facing}
 use Rattle.exact.proofs.Masks as masks
 use Rattle.exact.proofs.Options.{changed, survives}
-use Rattle.exact.proofs.Exactly.{plan-spares}
 
 pub two-options : Two-options
 two-options = masks.two-options
@@ -27,6 +24,3 @@ narrowing-keeps count clears comm lo hi lo′ hi′ t closed s =
       q = changed count clears comm t closed (s .q) (s .is);
       is = survives count clears comm t closed (s .q) (s .is);
     }
-
-pub spare-each : Spare-each
-spare-each n m grid xs a b p = omega (arith, plan-spares n m grid xs a b p, p .one-path .one-each)

@@ -1,15 +1,12 @@
 -- What is proved of the exact planner's rule: the statements (docs/EXACT.md). `Two-options` and `Nothing-lost` are about
--- rows and columns alone, `Narrowing-keeps` is over any symmetric test of two paths; `Paths-apart` and `Spare-each` are
--- about the paths of document 01.
+-- rows and columns alone, `Narrowing-keeps` is over any symmetric test of two paths; `Paths-apart` is about the paths of
+-- document 01.
 -- Assumes nothing.
-use Prim.Native.Nat.{ℕ, _+_, _*_, _≤_, _<_}
+use Prim.Native.Nat.{ℕ, _≤_, _<_}
 use mathlib.Core.Path.{_≡_}
 use mathlib.Core.Bool.{Bool, true}
-use mathlib.Core.List.{List}
-use lib.ListN.{length}
 use Rattle.array.specs.Place.{row, column, inner}
 use Rattle.paths.specs.Path.{clear}
-use Rattle.plans.specs.Plan.{Plan}
 use Rattle.exact.specs.Masks.{leaves, tried}
 use Rattle.exact.specs.Options.{Apart, Solution, Narrowed}
 use Rattle.exact.specs.Problem.{Crossing, Facing, Some-pair}
@@ -48,7 +45,3 @@ Narrowing-keeps =
     (count : ℕ) (clears : ℕ → ℕ → ℕ → ℕ → Bool) → ((i d j e : ℕ) → clears i d j e ≡ clears j e i d)
     → (lo hi lo′ hi′ : ℕ → ℕ) → Narrowed count lo hi lo′ hi′ → Closed count clears lo′ hi′
     → Some-solution count clears lo hi → Some-solution count clears lo′ hi′
-
--- a plan has no more paths than the array has spares: each ends on a spare of its own
-abbrev pub Spare-each : Type 0
-Spare-each = (n m : ℕ) (grid xs : List ℕ) → n ≤ 30 → m ≤ 30 → Plan n m grid xs → length xs ≤ 2 * (n + m)

@@ -3,6 +3,7 @@ pub mod Facts
 pub mod Entries
 pub mod ByPosition
 pub mod Planned
+pub mod Spares
 pub mod Accepts
 pub mod Tested
 pub mod Numbered

@@ -1,6 +1,6 @@
 -- Document 01, "Paths and plans": choices and plans, said of the inner faults and of a direction for each, in fault order.
 -- Assumes nothing.
-use Prim.Native.Nat.{ℕ, _≤_, _<_}
+use Prim.Native.Nat.{ℕ, _+_, _*_, _≤_, _<_}
 use mathlib.Core.Path.{_≡_}
 use mathlib.Core.Bool.{true, false}
 use mathlib.Core.Logic.{_⊎_}
@@ -53,3 +53,7 @@ Not-after (x ∷ xs) (y ∷ ys) = (x < y) ⊎ ((x ≡ y) × Not-after xs ys)
 pub record First-plan (n m : ℕ) (grid xs : List ℕ) : Type 0 where
   pub is-plan : Plan n m grid xs
   pub none-before : (ys : List ℕ) → Plan n m grid ys → Not-after xs ys
+
+-- a plan has no more paths than the array has spares: each ends on a spare of its own
+abbrev pub Spare-each : Type 0
+Spare-each = (n m : ℕ) (grid xs : List ℕ) → n ≤ 30 → m ≤ 30 → Plan n m grid xs → length xs ≤ 2 * (n + m)
