@@ -1,14 +1,13 @@
 -- A number that is written is read back, whatever stands before and behind.
 -- Assumes nothing.
-use Prim.Native.Nat.{ℕ, zero, suc, _+_, _-_, _*_, _/_, _%_, _<_, _≤_}
-use mathlib.Core.Path.{_≡_, refl, sym, ap, _∙_}
+use Prim.Native.Nat.{ℕ, zero, suc, _+_, _-_, _/_, _%_, _<_, _≤_}
+use mathlib.Core.Path.{_≡_, ap, _∙_}
 use mathlib.Core.List.{List, [], _∷_, _++_}
 use native.Mathlib.Omega.{arith}
 use lib.ListN.{length, getD, length-append}
 use lib.Seq.{getD-append-seam, append-snoc}
 use Rattle.array.proofs.Bools.{by-lt}
-use Rattle.formats.specs.Number.{groups-limit, with-low, groups-at, number-at, groups-of, bytes-of}
-use Rattle.formats.specs.declared.Number.{Number}
+use Rattle.formats.specs.Number.{groups-limit, groups-at, number-at, groups-of, bytes-of}
 use Rattle.formats.specs.declared.Number.the-variants.{Read}
 use Rattle.formats.proofs.Cases.{last-group, low-group, rest-read, group-one, group-more}
 

@@ -4,21 +4,12 @@ use Prim.Native.Nat.{ℕ, _≤_}
 use mathlib.Core.Path.{_≡_}
 use mathlib.Core.List.{List}
 use lib.ListN.{length}
-use Rattle.array.specs.Tests.{or-else}
-use Rattle.array.specs.declared.Verdict.{Verdict}
 use Rattle.formats.specs.Records.{file-bytes}
 use Rattle.formats.specs.declared.Kind.the-variants.{Plan}
-use Rattle.writers.specs.Writing.{told, buffer-test, trials-test, room-test, put, write-file, write-plan}
+use Rattle.writers.specs.Writing.{told, buffer-test, trials-test, write-file, write-plan}
 use Rattle.writers.specs.declared.FileWritten.{FileWritten}
 use Rattle.writers.specs.declared.FileWritten.the-variants.{Length}
-use Rattle.writers.proofs.Within.{put-within}
-use Rattle.array.specs.declared.Verdict.the-variants as verdict
-
--- after two tests
-module _ (bytes out : List ℕ) (r : FileWritten) (k : ℕ) (h : r ≡ Length k) where
-  two-within : (v w : Verdict) → told r ≡ told (put (or-else v (or-else w (room-test bytes out))) bytes out .0) → k ≤ length out
-  two-within verdict.Accepted w e = put-within bytes out r k h w e
-  two-within (verdict.Refused q) w e = put-within bytes out r k h (verdict.Refused q) e
+use Rattle.writers.proofs.Within.{two-within}
 
 pub plan-within : (n m : ℕ) (directions : List ℕ) (t : ℕ) (out : List ℕ) (r : FileWritten) (k : ℕ)
     → told r ≡ told (write-plan n m directions t out .0) → r ≡ Length k → k ≤ length out

@@ -31,3 +31,8 @@ module _ (bytes out : List ℕ) (r : FileWritten) (k : ℕ) (h : r ≡ Length k)
       let g : k ≡ length bytes = cc in
       omega arith)
   put-within (verdict.Refused q) e = absurd (never-both k q (ap told (sym h) ∙ e))
+
+  -- after two tests
+  pub two-within : (v w : Verdict) → told r ≡ told (put (or-else v (or-else w (room-test bytes out))) bytes out .0) → k ≤ length out
+  two-within verdict.Accepted w e = put-within w e
+  two-within (verdict.Refused q) w e = put-within (verdict.Refused q) e

@@ -1,6 +1,5 @@
 -- `formats::read_number` meets its contract: a number of one byte, or its groups.
 -- Assumes nothing.
-use denote.Ref.{now}
 use mathlib.Core.Path.{sym, ap, _∙_}
 use Rattle.formats.specs.Number.{told}
 use Rattle.formats.proofs.Cases.{ended, last-group}

@@ -5,7 +5,7 @@ use mathlib.Core.Path.{refl}
 use mathlib.Core.List.{[], _∷_}
 use Rattle.formats.specs.Number.{bytes-of}
 use Rattle.formats.proofs.Cases.{bytes-one, bytes-more}
-use Rattle.formats.proofs.Runs.{Run, Splits, splits-all, run-start, run-room, run-step, run-end}
+use Rattle.formats.proofs.Runs.{Run, Splits, run-start, run-room, run-step, run-end}
 use borrow.Author.Needs.{needs}
 use native.Mathlib.Omega.{arith}
 use Rattle.formats.proofs.write_number.Statement.{statement}
