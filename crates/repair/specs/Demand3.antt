@@ -1,5 +1,5 @@
--- Demand 3, as one statement about a whole run (document 00, demand 3; document 01, end of "Placement and routing").
--- Document 02, T-04: the openness of a plan is the narrower one, and a dead processor joins none of its ports. T-05: the
+-- Demand 3, as one statement about a whole run (document 00, demand 3; document 01, end of "Placement and routing"). What it
+-- says of placement, routing and follower is `In-use`. Document 02, T-04: the openness of a plan is the narrower one. T-05: the
 -- run is made with any of the planners, and those that are not spent call a map beyond repair in the same cases. The exact
 -- planner has no limit and is never spent.
 -- Assumes nothing.
@@ -7,12 +7,9 @@ use Prim.Native.Nat.{ℕ, _≤_, _<_}
 use mathlib.Core.Path.{_≡_}
 use mathlib.Core.Bool.{true, false}
 use mathlib.Core.Logic.{_⊎_, _↔_}
-use mathlib.Core.List.{List, [], _∷_, List·Memᴰ}
-use lib.ListN.{getD}
-use Rattle.array.specs.Place.{position, processor}
+use mathlib.Core.List.{List, [], _∷_}
 use Rattle.array.specs.Buffer.{all-long}
-use Rattle.array.specs.Map.{well-formed, healthy, dead}
-use Rattle.array.specs.declared.Verdict.{Verdict}
+use Rattle.array.specs.Map.{well-formed}
 use Rattle.array.specs.declared.Verdict.the-variants.{Accepted}
 use Rattle.plans.specs.Faults.{faults, directions-at}
 use Rattle.plans.specs.Plan.{Plan, Every-choice-blocked, First-plan}
@@ -21,24 +18,15 @@ use Rattle.trials.specs.Trials.{Search, found, count}
 use Rattle.trials.specs.Search.{plan-buffer}
 use Rattle.trials.specs.declared.Outcome.the-variants.{Repaired, Beyond, Spent}
 use Rattle.exact.specs.declared.Decision.the-variants as decision
-use Rattle.track.specs.Placement.{placement}
-use Rattle.track.specs.Letters.{across-letters, down-letters}
-use Rattle.track.specs.Ports.{Wafer, wafer, Compass, Processor, Port}
-use Rattle.track.specs.Link.{Trail, Link, Enters, switches}
-use Rattle.track.specs.Pieces.{Piece, pieces, Same}
-use Rattle.track.specs.Follower.{position-of, out-of, landing}
-use Rattle.track.specs.Theorems.{Cell, Neighbour}
-use Rattle.track.specs.Avoids.{Visits}
-use Rattle.track.specs.declared.Followed.{Followed}
-use Rattle.track.specs.declared.Followed.the-variants.{Entered}
+use Rattle.track.specs.Ports.{Wafer}
 use Rattle.repair.specs.Operations.{kept-by, left-by, planned-by, counts, plan-by, directions-by}
 use Rattle.repair.specs.Operations.{is-repaired, is-beyond}
-use Rattle.repair.specs.Operations.{place-cells, places-after, route-switches, across-after, down-after}
-use Rattle.repair.specs.Operations.{follow-link}
+use Rattle.repair.specs.InUse.{Use, In-use}
 use Rattle.repair.specs.declared.Planner.{Planner}
 use Rattle.repair.specs.declared.Planner.the-variants.{Trials, Exact}
 use Rattle.repair.specs.declared.Answer.{Answer}
 use Rattle.repair.specs.declared.Answer.the-variants.{Planned, Decided}
+use Rattle.repair.specs.InUse as use-of
 
 -- what is given to a run: the planner, a fault map, a limit, and the lent buffers with whatever they hold
 pub record Given : Type 0 where
@@ -59,32 +47,31 @@ pub record Good (g : Given) : Type 0 where
   pub u32 : g .limit < 4294967296
   pub lent : all-long (g .directions ∷ g .places ∷ g .across ∷ g .down ∷ []) ≡ true
 
--- THE RUN. Each call gets N, M and the grid; what the planner leaves in the direction buffer is handed to the three other operations, and
--- what the routing leaves in the switch buffers to the follower.
+-- THE RUN. Each call gets N, M and the grid; what the planner leaves in the direction buffer is handed to the three other operations.
 abbrev pub answer : Given → Answer
 answer g = plan-by (g .planner) (g .n) (g .m) (g .grid) (g .directions) (g .limit)
 
 abbrev pub planned-directions : Given → List ℕ
 planned-directions g = directions-by (g .planner) (g .n) (g .m) (g .grid) (g .directions) (g .limit)
 
-abbrev pub placing : Given → Verdict
-placing g = place-cells (g .n) (g .m) (g .grid) (planned-directions g) (g .places)
+-- what these are given, the lent buffers among it; then the placement that they leave, and the wafer with its switches
+abbrev pub used : Given → Use
+used g =
+    record {
+      n = g .n;
+      m = g .m;
+      grid = g .grid;
+      directions = planned-directions g;
+      places = g .places;
+      across = g .across;
+      down = g .down;
+    }
 
 abbrev pub places-held : Given → List ℕ
-places-held g = places-after (g .n) (g .m) (g .grid) (planned-directions g) (g .places)
+places-held g = use-of.places-held (used g)
 
-abbrev pub routing : Given → Verdict
-routing g = route-switches (g .n) (g .m) (g .grid) (planned-directions g) (g .across) (g .down)
-
--- the wafer that the follower is given
 abbrev pub routed : Given → Wafer
-routed g =
-    wafer (g .n) (g .m) (g .grid) (planned-directions g)
-    (across-after (g .n) (g .m) (g .grid) (planned-directions g) (g .across) (g .down))
-    (down-after (g .n) (g .m) (g .grid) (planned-directions g) (g .across) (g .down))
-
-abbrev pub following : Given → ℕ → ℕ → ℕ → Followed
-following g i j side = follow-link (routed g) (position i j) side
+routed g = use-of.routed (used g)
 
 -- the paths of a run: the directions written, in fault order
 abbrev pub paths : Given → List ℕ
@@ -108,43 +95,6 @@ T-of g = count (search-of g)
 abbrev pub rest-of : Given → List ℕ
 rest-of g = directions-at (planned-directions g) (left-of g)
 
--- the position that the placement holds for cell [i, j], and the port of the processor there by which its link on a side leaves
-abbrev pub held : Given → ℕ → ℕ → ℕ
-held g i j = getD (places-held g) (position i j) 0
-
-abbrev pub out : Given → ℕ → ℕ → ℕ → Port
-out g i j side = out-of (held g i j) side
-
--- the link of [i, j] on a side, which is to reach [k, l] by a port
-pub record Reached (g : Given) (i j side k l : ℕ) (port : Compass) : Type 0 where
-  -- there is a link, run through the switches that routing sets, and it enters a processor by the port `end`
-  pub link : Trail
-  pub is-link : Link (routed g) (out g i j side) link
-  pub end : Port
-  pub ends : Enters link end
-  -- the follower accepts, and its answer is that of the link itself: the end's position and port number, and the link's switches
-  pub own : following g i j side ≡ Entered (landing link end)
-  -- the position entered is the one that the placement holds for the neighbour
-  pub at-neighbour : position-of (end .node) ≡ held g k l
-  pub by-port : end .side ≡ port
-  pub few : switches link ≤ 3
-
--- a link to a neighbour, named by its cell and side
-pub record Neighbour-link (g : Given) : Type 0 where
-  pub i : ℕ
-  pub j : ℕ
-  pub side : ℕ
-  pub k : ℕ
-  pub l : ℕ
-  pub port : Compass
-  pub to : Neighbour (routed g) i j side k l port
-  pub link : Trail
-  pub is-link : Link (routed g) (out g i j side) link
-
--- all the pieces that it runs over
-abbrev pub pieces-of : (g : Given) → Neighbour-link g → List Piece
-pieces-of g u = pieces (out g (u .i) (u .j) (u .side)) (u .link)
-
 -- what follows on `repaired`
 pub record After-repaired (g : Given) : Type 0 where
   -- the trials find the directions of the faults left, and the buffer has these and those that were kept beforehand
@@ -153,23 +103,8 @@ pub record After-repaired (g : Given) : Type 0 where
   -- the paths are a plan, and by the trial rule over all faults and by the exact planner the first of all plans
   pub is-plan : Plan (g .n) (g .m) (g .grid) (paths g)
   pub first-plan : (g .planner ≡ Trials) ⊎ (g .planner ≡ Exact) → First-plan (g .n) (g .m) (g .grid) (paths g)
-  -- placement and routing accept, and their buffers hold what `track` defines for the directions
-  pub placing-accepted : placing g ≡ Accepted
-  pub placement-defined : places-held g ≡ placement (g .n) (g .m) (g .grid) (planned-directions g)
-  pub routing-accepted : routing g ≡ Accepted
-  pub across-defined : routed g .across ≡ across-letters (g .n) (g .m) (g .grid) (planned-directions g)
-  pub down-defined : routed g .down ≡ down-letters (g .n) (g .m) (g .grid) (planned-directions g)
-  -- every cell has a healthy processor to itself
-  pub sits : (i j : ℕ) → Cell (routed g) i j
-      → (processor (g .n) (g .m) (held g i j) ≡ true) × (healthy (g .grid) (held g i j) ≡ true)
-  pub alone : (i j k l : ℕ) → Cell (routed g) i j → Cell (routed g) k l → held g i j ≡ held g k l → (i ≡ k) × (j ≡ l)
-  -- the track followed from any cell to a right or lower neighbour reaches it, by W or by N, over at most three switches
-  pub reaches : (i j side k l : ℕ) (port : Compass) → Neighbour (routed g) i j side k l port → Reached g i j side k l port
-  -- no two such links of different name share a piece of track
-  pub no-shared-piece : (u v : Neighbour-link g) (a b : Piece) → List·Memᴰ a (pieces-of g u) → List·Memᴰ b (pieces-of g v)
-      → Same a b → (u .i ≡ v .i) × (u .j ≡ v .j) × (u .side ≡ v .side)
-  -- and none enters a dead processor
-  pub avoids-dead : (u : Neighbour-link g) (x y : ℕ) → dead (g .grid) (position x y) ≡ true → Visits (u .link) (Processor x y) → ⊥
+  -- placement, routing and follower do what is said of a plan in use
+  pub in-use : In-use (used g)
 
 -- what a planner that counts its trials answers
 pub record Under-limit (g : Given) : Type 0 where

@@ -21,7 +21,8 @@ use Rattle.track.specs.Ports.{Compass, W, N}
 use Rattle.track.specs.Follower.{port-number}
 use Rattle.track.specs.Theorems.{Cell, Neighbour, right, lower}
 use Rattle.repair.specs.Operations.{follow-link}
-use Rattle.repair.specs.Demand3.{Given, Good, planned-directions, places-held, routed, After-repaired}
+use Rattle.repair.specs.InUse.{In-use}
+use Rattle.repair.specs.Demand3.{Given, Good, planned-directions, used, places-held, routed}
 use Rattle.runs.specs.Run.{run-test, neighbour-of, arrives-at, has-neighbour, reached, links-reached, all-reached, unless-refused-count, links-found, link-count}
 use Rattle.runs.proofs.LinkCount.{right-links, lower-links}
 
@@ -38,7 +39,7 @@ and-same true x f = f refl
 and-same false x f = refl
 
 -- After `repaired`.
-module _ (g : Given) (good : Good g) (after : After-repaired g) where
+module _ (g : Given) (good : Good g) (after : In-use (used g)) where
   -- the link of the cell at p to a neighbour arrives there
   arrives : (p side k l : ℕ) (port : Compass) → Neighbour (routed g) (row p) (column p) side k l port
       → position k l ≡ neighbour-of side p → port-number port ≡ 2 * side

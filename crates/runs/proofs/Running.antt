@@ -14,8 +14,9 @@ use Rattle.array.proofs.Formed.{formed-lent, grid-and}
 use Rattle.array.proofs.Verdicts.{kept-refused, written-accepted}
 use Rattle.repair.specs.Operations.{told, is-repaired, answer-by, buffer-by, answer-after, planner-test, plan-by, directions-by}
 use Rattle.repair.specs.Operations.{places-after, across-after, down-after}
+use Rattle.repair.specs.InUse.{In-use}
 use Rattle.repair.specs.Demand3.{Given, Good, answer, planned-directions, kept-of, left-of, search-of}
-use Rattle.repair.specs.Demand3.{places-held, routed, After-repaired, Demand3}
+use Rattle.repair.specs.Demand3.{used, places-held, routed, Demand3}
 use Rattle.repair.specs.declared.Answer.{Answer}
 use Rattle.repair.proofs.Calls.{answer-accepted}
 use Rattle.repair.proofs.Demand3.{demand-3}
@@ -100,8 +101,8 @@ module _ (g : Given) (u32 : g .limit < 4294967296) where
           ran answered h directions-left (λ p. (as-planned, as-left)) refl refl refl refl (λ f. absurd (false≢true f))
 
       module _ (repaired : is-repaired a ≡ true) where
-        after : After-repaired g
-        after = demand passes .1 .after (ap is-repaired (sym as-planned) ∙ repaired)
+        after : In-use (used g)
+        after = demand passes .1 .after (ap is-repaired (sym as-planned) ∙ repaired) .in-use
 
         pub accepts : Accepts (g .n) (g .m) (g .grid) ds (g .places) (g .across) (g .down)
         accepts = rw as-left (record { placing = after .placing-accepted; routing = after .routing-accepted })
