@@ -1,0 +1,9 @@
+pub mod Held
+pub mod Opens
+pub mod Changed
+pub mod Counted
+pub mod Reports
+pub mod Sound
+pub mod Readings
+pub mod Examples
+pub mod Serving

@@ -1,0 +1,4 @@
+pub mod Theorems
+pub mod Readings
+pub mod Serving
+pub mod Examples
