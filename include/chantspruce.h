@@ -4,8 +4,9 @@
  * An array of N x M processors, all alike, has a ring of spares around it and switches between its processors. From a map of the faulty
  * processors the library chooses a straight path from each faulty processor inside the array to a spare, tells which healthy processor holds
  * each logical cell, gives the letter of every switch so that neighbouring cells are linked, and follows any link through the switches to
- * where it arrives. Where there is no plan it says so. The result of every function and every buffer after it are proved to be what
- * their definitions say, for all arguments: there is no argument that a caller must test before a call.
+ * where it arrives. Where there is no plan it says so. While the array is in the field it keeps the plan up to date, one report of a processor
+ * that fails or recovers at a time. The result of every function and every buffer and session after it are proved to be what their definitions
+ * say, for all arguments: there is no argument that a caller must test before a call.
  *
  * A whole repair is one call of chantspruce_repair_run, or these calls one after the other:
  *
@@ -20,12 +21,18 @@
  *         chantspruce_route_switches(map.rows, map.columns, grid, B, directions, B, across, B, down, B);
  *     }
  *
+ * From the plan a controller can start a session and report to it, as processors fail and recover:
+ *
+ *     chantspruce_started field = chantspruce_start_session(map.rows, map.columns, grid, B, directions, B);
+ *     chantspruce_verdict told = chantspruce_report_processor(&field.session, true, CHANTSPRUCE_POSITION(2, 5));
+ *     if (told.number == CHANTSPRUCE_ACCEPTED) { ... field.session.directions is a plan with that fault ... }
+ *
  * In place of chantspruce_plan_repair a controller may call chantspruce_plan_quickly, which usually takes fewer trials.
  * Each of the two may decide a map on which the other is spent. chantspruce_plan_exactly takes no limit and decides
  * every map.
  *
  * Link with libcapi.a (`rt staticlib capi` writes target/staticlib/libcapi.a, for x86-64 Linux; it needs memcpy and memset and nothing else).
- * tests/c/controller.c is a small program over it.
+ * tests/c/controller.c and tests/c/field.c are small programs over it.
  *
  *
  * THE ARRAY
@@ -73,6 +80,19 @@
  * ends.
  *
  *
+ * SESSIONS
+ *
+ * A session is a map with a plan for it and four counters for each processor inside the array, one for each direction: how many paths of the
+ * plan that start at other processors share a processor with a path from there in that direction or are a near-miss with it. The caller holds
+ * the session and hands it to each report, which alters it in place. Where chantspruce_start_session accepts a plan the session begins: from
+ * then on, after any reports, refused ones among them, its directions are a plan for its grid, and every counter equals its count made afresh.
+ * Where it refuses, the session is all 0, and every report to it is refused with 1.
+ *
+ * A session is the caller's memory like any buffer: it may be copied and kept. Where it is changed by hand, the next report tests N, M, the grid
+ * and the directions. Counters are taken as they stand: a report adds 1 to them or takes 1 away, and they stop at 255 and at 0. With wrong
+ * counters a report may take a path that is not clear of another; the next one then refuses the session with 6 or 7.
+ *
+ *
  * FILES
  *
  * A number, 0 to 2,097,151, is one to three bytes, as few as hold it: seven bits in each, the low ones first, and the top
@@ -88,27 +108,30 @@
  * RESULTS
  *
  * Each result begins with `number`, `place` and `second`. An accepted call has number CHANTSPRUCE_ACCEPTED, which is 0, and 0 in both places;
- * its values follow. A refused call has one of the numbers 1 to 21 below and 0 in every value, and has written to no buffer. Tests are
- * made in a fixed order, which each function states, and the first that fails is returned.
+ * its values follow. A refused call has one of the numbers 1 to 24 below and 0 in every value, and leaves every buffer and session as it was.
+ * Tests are made in a fixed order, which each function states, and the first that fails is returned.
  *
  *
  * WHAT THE CALLER MUST SEE TO
  *
- * Any number may be passed for any size, cell, side, offset, limit or trials, any bytes in any buffer, and any length: a wrong one is
- * refused. Beyond that, as for all C functions:
+ * Any number may be passed for any size, cell, side, position, offset, limit or trials, any bytes in any buffer or session, and any length: a
+ * wrong one is refused, but for the counters of a session. Beyond that, as for all C functions:
  *  - A pointer is valid for as many elements as the length after it says, and is aligned for its type. A length is in elements, not in bytes.
- *    A null pointer is never allowed. Where the length is 0 nothing is read or written, and any other pointer will do.
+ *    A null pointer is never allowed. Where the length is 0 nothing is read or written, and any other pointer will do. A pointer to a session
+ *    has no length after it, is valid for one session, and can be written to, also where the report is refused. A bool is true or false.
  *  - A buffer that a call writes to (a parameter that is no pointer to const) overlaps no other buffer of the same call. Two buffers
  *    that are only read may be the same.
- *  - While a call runs, nothing else writes to its buffers, and nothing else reads those that it writes to.
+ *  - While a call runs, nothing else writes to its buffers or its session, and nothing else reads those that it writes to.
  *  - CHANTSPRUCE_STACK bytes of stack are free. (This is measured and not proved: each of the three listings takes less
- *    than 52 KiB, any other function less than 16 KiB.) Nothing is allocated and nothing is kept between calls, so that
- *    calls on different buffers may run at the same time.
+ *    than 52 KiB, the start of a session less than 24 KiB, any other function less than 16 KiB.)
+ *    Nothing is allocated and nothing is kept between calls, so that calls on different buffers and sessions may run at
+ *    the same time.
  * Where one of these is not met the behaviour is undefined, and nothing is promised of the result.
  */
 #ifndef CHANTSPRUCE_H
 #define CHANTSPRUCE_H
 
+#include <stdbool.h>
 #include <stddef.h>
 #include <stdint.h>
 
@@ -125,6 +148,7 @@ extern "C" {
 #define CHANTSPRUCE_LISTING_ROOM 32768 /* bytes that are room for every listing */
 #define CHANTSPRUCE_STACK 65536        /* bytes of stack that are enough for every call */
 
+/* The row and the column are below 32, or it is the position of another: 0 and 33 would give that of 1 and 1. */
 #define CHANTSPRUCE_POSITION(row, column) (32 * (size_t)(row) + (size_t)(column))
 #define CHANTSPRUCE_ROW(position) ((size_t)(position) / 32)
 #define CHANTSPRUCE_COLUMN(position) ((size_t)(position) % 32)
@@ -182,8 +206,8 @@ enum {
 
 /* NUMBERS OF REFUSALS
  *
- * In a function that takes buffers `place` is a position and, for 6 and 7, `second` the other one; in one that reads a file `place` is a byte
- * offset. Where nothing is said of a place it is 0.
+ * In a function that takes buffers or a session `place` is a position and, for 6 and 7, `second` the other one; in one that reads a file
+ * `place` is a byte offset. Where nothing is said of a place it is 0.
  */
 enum {
     CHANTSPRUCE_ACCEPTED = 0,
@@ -222,7 +246,7 @@ enum {
     CHANTSPRUCE_WRONG_FILE_DIRECTION = 13,
     /* The room for what is to be written is too short. Place: the length that is needed. */
     CHANTSPRUCE_NO_ROOM = 14,
-    /* There is no such cell, or the side is neither 0 nor 1. */
+    /* There is no such cell, or the side is neither 0 nor 1. In chantspruce_report_processor: there is no processor at the position. */
     CHANTSPRUCE_NO_CELL = 15,
     /* A switch buffer has a byte that cannot stand there: not a to d at a switch, or not 0 elsewhere. Place: the lowest such position in
        either buffer. */
@@ -237,7 +261,15 @@ enum {
     /* A dead processor of a map file is at a position that is not inside. Place: the offset of the record's row. */
     CHANTSPRUCE_WRONG_DEAD_POSITION = 20,
     /* The trials to be written are more than 2,097,151, the highest number of a file. */
-    CHANTSPRUCE_WRONG_TRIALS = 21
+    CHANTSPRUCE_WRONG_TRIALS = 21,
+    /* A processor is reported as failing that is faulty already, or as recovering that is healthy. Place: its position. */
+    CHANTSPRUCE_NOTHING_NEW = 22,
+    /* A processor is reported as failing that lies on a path of the plan, a spare at its end among them, or as recovering that is dead. Place:
+       its position. */
+    CHANTSPRUCE_IN_USE_OR_DEAD = 23,
+    /* A processor inside the array is reported as failing, and no direction qualifies: each of its paths is closed or has a counter that is
+       not 0. Place: its position. */
+    CHANTSPRUCE_NO_DIRECTION = 24
 };
 
 /* A FAULT OF A LIST */
@@ -247,14 +279,36 @@ typedef struct chantspruce_fault {
     uint8_t direction; /* CHANTSPRUCE_SOUTH, _NORTH, _EAST or _WEST: where its path goes */
 } chantspruce_fault;
 
+/* A SESSION */
+
+typedef struct chantspruce_session {
+    size_t rows;    /* N */
+    size_t columns; /* M */
+    uint8_t grid[CHANTSPRUCE_BUFFER];
+    uint8_t directions[CHANTSPRUCE_BUFFER];
+    /* the counters of each direction, by position; 0 where no processor inside the array is */
+    uint8_t south[CHANTSPRUCE_BUFFER];
+    uint8_t north[CHANTSPRUCE_BUFFER];
+    uint8_t east[CHANTSPRUCE_BUFFER];
+    uint8_t west[CHANTSPRUCE_BUFFER];
+} chantspruce_session;
+
 /* RESULTS */
 
-/* Of the plan checks, the placement and the routing. */
+/* Of the plan checks, the placement, the routing and the reports to a session. */
 typedef struct chantspruce_verdict {
     uint32_t number;
     size_t place;
     size_t second;
 } chantspruce_verdict;
+
+/* Of the start of a session. */
+typedef struct chantspruce_started {
+    uint32_t number;
+    size_t place;
+    size_t second;
+    chantspruce_session session; /* all 0 where the call is refused */
+} chantspruce_started;
 
 /* Of the planners and of the runs. */
 typedef struct chantspruce_plan {
@@ -428,6 +482,22 @@ chantspruce_verdict chantspruce_check_fault_list(size_t rows, size_t columns,
                                                  const uint8_t *grid, size_t grid_length,
                                                  const chantspruce_fault *faults, size_t count);
 
+/* FIELD REPORTS */
+
+/* Starts a session from a plan, with every counter made afresh.
+ * Refuses 1 to 7, in this order, 6 and 7 pair by pair: what it refuses is no plan for this grid. */
+chantspruce_started chantspruce_start_session(size_t rows, size_t columns,
+                                              const uint8_t *grid, size_t grid_length,
+                                              const uint8_t *directions, size_t directions_length);
+
+/* Reports to a session that the processor at a position fails, or recovers where `failing` is false, and alters the session.
+ * A failing processor inside the array gets the mark CHANTSPRUCE_FAULTY and a path: south, north, east and west are taken in this order, and it
+ * keeps the first whose path is open and whose counter is 0. session->directions has it afterwards. A failing spare is only marked, and may
+ * fail where no path of the plan ends on it. A processor that recovers gets the mark CHANTSPRUCE_HEALTHY and loses its path, if it has one. No
+ * other path changes. The counters in which the path that comes or goes is counted change by 1, and no others; none goes below 0 or above 255.
+ * Refuses 1 to 7 of the session, in this order, 6 and 7 pair by pair, then 15, 22, 23, 24, in this order. */
+chantspruce_verdict chantspruce_report_processor(chantspruce_session *session, bool failing, size_t position);
+
 /* FILES */
 
 /* Reads the number at the offset `at` of a file.
@@ -490,6 +560,7 @@ chantspruce_length chantspruce_report_exactly(const uint8_t *file, size_t file_l
 /* The library is built for machines whose size_t has 64 bits and is aligned to 8 bytes. */
 typedef char chantspruce_size_t_has_64_bits[sizeof(size_t) == 8 ? 1 : -1];
 typedef char chantspruce_fault_has_16_bytes[sizeof(chantspruce_fault) == 16 ? 1 : -1];
+typedef char chantspruce_session_has_6160_bytes[sizeof(chantspruce_session) == 6160 ? 1 : -1];
 
 #ifdef __cplusplus
 }

@@ -12,6 +12,7 @@
 //!
 //! Every buffer except file bytes, listings and lists of faults has [`BUFFER`] elements, indexed by position: 32 times the row, plus the column.
 //! An accepted call returns `Ok` and fills the buffers lent to it. A refused one returns a [`Refusal`] and leaves them as they were. No function panics.
+//! A [`Session`] keeps a plan up to date while processors fail and recover, one report at a time.
 //!
 //! ```
 //! use chantspruce::{BUFFER, Outcome, Refusal, direction, plan_repair, read_map};
@@ -105,7 +106,7 @@ pub enum Reason {
     RecordDirection = 13,
     /// The bytes to be written do not fit; the place is their number.
     Room = 14,
-    /// The array has no such cell, or a cell no such side.
+    /// The array has no such cell, or a cell no such side, or the array has no processor at a reported position.
     NoSuchLink = 15,
     /// A switch byte does not fit its position.
     SwitchByte = 16,
@@ -119,12 +120,18 @@ pub enum Reason {
     DeadPlace = 20,
     /// The trials to be written are more than 2,097,151, the highest number of a file.
     Trials = 21,
+    /// A processor is reported as failing that is faulty already, or as recovering that is healthy.
+    NothingNew = 22,
+    /// A processor is reported as failing that lies on a path of the plan, or as recovering that is dead.
+    InUseOrDead = 23,
+    /// A processor inside the array is reported as failing, and each of its paths is closed or has a counter that is not 0.
+    NoDirection = 24,
     /// An answer that the interface does not have. The library gives none.
     Unknown = 0,
 }
 
 /// The reasons in the order of their numbers, which begin with 1.
-const REASONS: [Reason; 21] = [
+const REASONS: [Reason; 24] = [
     Reason::Size,
     Reason::BufferLength,
     Reason::Mark,
@@ -146,6 +153,9 @@ const REASONS: [Reason; 21] = [
     Reason::RecordOrder,
     Reason::DeadPlace,
     Reason::Trials,
+    Reason::NothingNew,
+    Reason::InUseOrDead,
+    Reason::NoDirection,
 ];
 
 impl Reason {
@@ -154,7 +164,7 @@ impl Reason {
         REASONS.get(index).copied().unwrap_or(Reason::Unknown)
     }
 
-    /// The number of the refusal, 1 to 21; 0 for [`Reason::Unknown`].
+    /// The number of the refusal, 1 to 24; 0 for [`Reason::Unknown`].
     pub fn number(self) -> u32 {
         self as u32
     }
@@ -280,6 +290,51 @@ pub struct Fault {
     pub position: usize,
     /// One of [`direction`].
     pub direction: u8,
+}
+
+/// A map with a plan for it, kept up to date by reports, and four counters for each inner processor, by direction: how many paths of the plan
+/// that start at other processors meet or nearly miss a path from there. After any reports to a session that [`Session::start`] gave, its
+/// directions are a plan for its grid and its counters are right.
+///
+/// The fields may hold anything: each report tests size, grid and directions first. Counters are taken as they stand; they stop at 0 and 255.
+#[repr(C)]
+#[derive(Clone, Debug, PartialEq, Eq)]
+pub struct Session {
+    /// The array's rows of cells.
+    pub rows: usize,
+    /// The array's columns of cells.
+    pub columns: usize,
+    /// The map, see [`mark`].
+    pub grid: [u8; BUFFER],
+    /// The plan, see [`direction`].
+    pub directions: [u8; BUFFER],
+    /// The counters of paths south.
+    pub south: [u8; BUFFER],
+    /// The counters of paths north.
+    pub north: [u8; BUFFER],
+    /// The counters of paths east.
+    pub east: [u8; BUFFER],
+    /// The counters of paths west.
+    pub west: [u8; BUFFER],
+}
+
+impl Session {
+    /// A session from the plan in `directions`, with every counter made afresh. Refusals: 1 to 7.
+    pub fn start(n: usize, m: usize, grid: &[u8], directions: &[u8]) -> Result<Session, Refusal> {
+        flat::start_session(n, m, grid, directions).answer()
+    }
+
+    /// Reports that the processor at `position` fails. An inner one gets a path, in the first of the directions south, north, east and west that
+    /// is open and has counter 0; a spare is only marked. Refusals: 1 to 7, 15 and 22 to 24; then the session is as it was.
+    pub fn fail(&mut self, position: usize) -> Result<(), Refusal> {
+        flat::report_processor(self, true, position).answer()
+    }
+
+    /// Reports that the processor at `position` recovers: it is healthy again, and its path goes, if it has one. Refusals: 1 to 7, 15, 22 and
+    /// 23; then the session is as it was.
+    pub fn recover(&mut self, position: usize) -> Result<(), Refusal> {
+        flat::report_processor(self, false, position).answer()
+    }
 }
 
 /// Whether `directions` holds a plan for the map of `n` rows, `m` columns and `grid`; refused with the first test that fails (1 to 7).
@@ -426,13 +481,13 @@ pub fn report_exactly(file: &[u8], out: &mut [u8]) -> Result<usize, Refusal> {
     flat::report_exactly(file, out).answer()
 }
 
-/// The functions of the same names with the library's own structs, as include/chantspruce.h declares them for C. A struct's `number` is 0 for an
-/// accepted call and else the number of the refusal; the fields after `second` are 0 for a refused one.
+/// The functions by the library's own names and with its own structs, as include/chantspruce.h declares them for C. A struct's `number` is 0
+/// for an accepted call and else the number of the refusal; the fields after `second` are 0 for a refused one.
 #[allow(clippy::too_many_arguments)]
 pub mod flat {
-    use super::{Decision, Fault, Head, Link, Number, Outcome, PlanHead, Port, Reason, Refusal, Run};
+    use super::{Decision, Fault, Head, Link, Number, Outcome, PlanHead, Port, Reason, Refusal, Run, Session};
 
-    /// Of the plan checks, placement and routing.
+    /// Of the plan checks, placement, routing and reports to a session.
     #[repr(C)]
     #[derive(Clone, Copy, Debug, PartialEq, Eq)]
     pub struct Verdict {
@@ -475,6 +530,16 @@ pub mod flat {
         pub second: usize,
         pub value: u32,
         pub next: usize,
+    }
+
+    /// Of the start of a session, which is all 0 where it is refused.
+    #[repr(C)]
+    #[derive(Clone, Debug, PartialEq, Eq)]
+    pub struct Started {
+        pub number: u32,
+        pub place: usize,
+        pub second: usize,
+        pub session: Session,
     }
 
     /// Of the map reader.
@@ -524,6 +589,12 @@ pub mod flat {
         /// The answer as a `Result`, as in the structs below.
         pub fn answer(self) -> Result<(), Refusal> {
             answer(self.number, self.place, self.second, Some(()))
+        }
+    }
+
+    impl Started {
+        pub fn answer(self) -> Result<Session, Refusal> {
+            answer(self.number, self.place, self.second, Some(self.session))
         }
     }
 
@@ -723,6 +794,9 @@ pub mod flat {
             down: BytesMut,
             down_len: usize,
         ) -> Planned;
+        fn chantspruce_start_session(n: usize, m: usize, grid: Bytes, grid_len: usize, directions: Bytes, directions_len: usize)
+        -> Started;
+        fn chantspruce_report_processor(session: *mut Session, failing: bool, position: usize) -> Verdict;
         fn chantspruce_read_number(file: Bytes, file_len: usize, at: usize) -> NumberRead;
         fn chantspruce_read_map(file: Bytes, file_len: usize, grid: BytesMut, grid_len: usize) -> MapRead;
         fn chantspruce_read_plan(file: Bytes, file_len: usize, directions: BytesMut, directions_len: usize) -> PlanRead;
@@ -741,8 +815,8 @@ pub mod flat {
         fn chantspruce_report_exactly(file: Bytes, file_len: usize, out: BytesMut, out_len: usize) -> Written;
     }
 
-    // SAFETY, of each call below: the library reads and writes within the lengths that it is given and keeps no pointer; a slice is valid for
-    // its length, and a slice lent by `&mut` overlaps no other.
+    // SAFETY, of each call below: the library reads and writes within the lengths that it is given, or within the session, and keeps no pointer;
+    // a slice is valid for its length, and a slice or session lent by `&mut` overlaps no other. All bytes of a session may have any value.
 
     pub fn check_plan(n: usize, m: usize, grid: &[u8], directions: &[u8]) -> Verdict {
         let (g, d) = (grid, directions);
@@ -883,6 +957,15 @@ pub mod flat {
                 b.len(),
             )
         }
+    }
+
+    pub fn start_session(n: usize, m: usize, grid: &[u8], directions: &[u8]) -> Started {
+        let (g, d) = (grid, directions);
+        unsafe { chantspruce_start_session(n, m, g.as_ptr(), g.len(), d.as_ptr(), d.len()) }
+    }
+
+    pub fn report_processor(session: &mut Session, failing: bool, position: usize) -> Verdict {
+        unsafe { chantspruce_report_processor(session, failing, position) }
     }
 
     pub fn read_number(file: &[u8], at: usize) -> NumberRead {

@@ -17,7 +17,9 @@ use Rattle.formats.specs.declared.Number.{Number}
 use Rattle.readers.specs.declared.FileRead.{FileRead}
 use Rattle.readers.specs.declared.MapRead.{MapRead}
 use Rattle.writers.specs.declared.FileWritten.{FileWritten}
+use Rattle.sessions.specs.declared.Session.{Session}
 use Rattle.capi.specs.declared.ChantspruceVerdict.{ChantspruceVerdict}
+use Rattle.capi.specs.declared.ChantspruceStarted.{ChantspruceStarted}
 use Rattle.capi.specs.declared.ChantsprucePlan.{ChantsprucePlan}
 use Rattle.capi.specs.declared.ChantspruceLink.{ChantspruceLink}
 use Rattle.capi.specs.declared.ChantspruceNumber.{ChantspruceNumber}
@@ -35,6 +37,16 @@ use Rattle.writers.specs.declared.FileWritten.the-variants as writer
 unfoldable pub flat-verdict : Verdict → ChantspruceVerdict
 flat-verdict verdict.Accepted = record { number = 0; place = 0; second = 0 }
 flat-verdict (verdict.Refused r) = record { number = r .number; place = r .place; second = r .second }
+
+-- T-07. An answer with a session beside it.
+abbrev pub flat-started : Verdict → Session → ChantspruceStarted
+flat-started v s =
+    record {
+      number = flat-verdict v .number;
+      place = flat-verdict v .place;
+      second = flat-verdict v .second;
+      session = s;
+    }
 
 -- an outcome by its kind and the count that it carries
 abbrev pub planned-as : ℕ → ℕ → ℕ → ChantsprucePlan

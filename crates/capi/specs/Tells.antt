@@ -3,7 +3,7 @@
 -- Assumes nothing.
 use Prim.Native.Nat.{ℕ, _-_}
 use mathlib.Core.Path.{_≡_}
-use mathlib.Core.Bool.{cond}
+use mathlib.Core.Bool.{Bool, cond}
 use mathlib.Core.List.{List, [], _∷_}
 use lib.Dec.{eqb}
 use Rattle.array.specs.Tests.{Told, accepts, refuses, Numbered}
@@ -21,15 +21,19 @@ use Rattle.formats.specs.Number.{number-at}
 use Rattle.readers.specs.Reading.{read-map, read-plan}
 use Rattle.writers.specs.Writing.{write-map, write-plan}
 use Rattle.listing.specs.Listing.{reported}
-use Rattle.capi.specs.Flat.{flat-verdict, flat-answer, run-of, flat-run, flat-link}
+use Rattle.sessions.specs.Session.{session-started, report-test}
+use Rattle.sessions.specs.declared.Session.{Session}
+use Rattle.capi.specs.Flat.{flat-verdict, flat-started, flat-answer, run-of, flat-run, flat-link}
 use Rattle.capi.specs.Flat.{flat-number, flat-head, flat-plan-head, flat-length}
 use Rattle.capi.specs.declared.ChantspruceVerdict.{ChantspruceVerdict}
+use Rattle.capi.specs.declared.ChantspruceStarted.{ChantspruceStarted}
 use Rattle.capi.specs.declared.ChantsprucePlan.{ChantsprucePlan}
 use Rattle.capi.specs.declared.ChantspruceLink.{ChantspruceLink}
 use Rattle.capi.specs.declared.ChantspruceNumber.{ChantspruceNumber}
 use Rattle.capi.specs.declared.ChantspruceHead.{ChantspruceHead}
 use Rattle.capi.specs.declared.ChantsprucePlanHead.{ChantsprucePlanHead}
 use Rattle.capi.specs.declared.ChantspruceLength.{ChantspruceLength}
+use Rattle.array.specs.declared.Verdict.{Verdict}
 use Rattle.array.specs.Tests as tests
 use Rattle.track.specs.Follower as links
 use Rattle.repair.specs.Operations as operations
@@ -44,6 +48,10 @@ by-number k p q values = cond (eqb k 0) (accepts values) (refuses k p q)
 -- what each struct tells
 abbrev pub verdict-tells : ChantspruceVerdict → Told
 verdict-tells r = by-number (r .number) (r .place) (r .second) []
+
+-- the session beside it is the struct's own field
+abbrev pub started-tells : ChantspruceStarted → Told
+started-tells r = by-number (r .number) (r .place) (r .second) []
 
 -- outcomes count from 1 in the struct and from 0 in what an answer tells; from the exact planner a caller reads no count
 abbrev pub values-by : Planner → ChantsprucePlan → List ℕ
@@ -99,3 +107,8 @@ pub record Nothing-lost : Type 0 where
   pub by-write-plan : (n m : ℕ) (directions : List ℕ) (trials : ℕ) (out : List ℕ)
       → Kept writers.told flat-length length-tells (write-plan n m directions trials out .0)
   pub by-report : (pl : Planner) (s out : List ℕ) → Kept writers.told flat-length length-tells (reported pl s out .0)
+  pub by-start-session : (n m : ℕ) (grid directions : List ℕ)
+      → Kept tests.told (λ (v : Verdict). flat-started v (session-started n m grid directions)) started-tells
+      (check-plan n m grid directions)
+  pub by-report-processor : (s : Session) (failing : Bool) (position : ℕ)
+      → Kept tests.told flat-verdict verdict-tells (report-test s failing position)

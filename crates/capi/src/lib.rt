@@ -7,6 +7,7 @@ use readers::FileRead;
 use readers::MapRead;
 use repair::Answer;
 use repair::Planner;
+use sessions::Session;
 use track::Followed;
 use trials::Outcome;
 use writers::FileWritten;
@@ -24,18 +25,28 @@ ghost use Rattle.runs.specs.Run.{given};
 ghost use Rattle.readers.specs.Reading.{read-map, read-plan};
 ghost use Rattle.writers.specs.Writing.{write-map, write-plan};
 ghost use Rattle.listing.specs.Listing.{reported};
-ghost use Rattle.capi.specs.Flat.{flat-verdict, planned-as, flat-outcome, flat-decision, flat-answer, Ran-flat, flat-link};
+ghost use Rattle.sessions.specs.Session.{session-started, report-test, session-reported};
+ghost use Rattle.capi.specs.Flat.{flat-verdict, flat-started, planned-as, flat-outcome, flat-decision, flat-answer, Ran-flat, flat-link};
 ghost use Rattle.capi.specs.Flat.{flat-number, flat-head, flat-plan-head, flat-length};
 
 // Every struct begins with `number` (0 where the call is accepted, else the number of the refusal), `place` and `second`. The values
 // after them are 0 where the call is refused.
 
-// The plan check, placement and routing.
+// The plan check, placement, routing and reports.
 #[repr(C)]
 pub struct ChantspruceVerdict {
     pub number: u32,
     pub place: usize,
     pub second: usize,
+}
+
+// The start of a session: the session that reports are handed.
+#[repr(C)]
+pub struct ChantspruceStarted {
+    pub number: u32,
+    pub place: usize,
+    pub second: usize,
+    pub session: Session,
 }
 
 // The planners and the runs. `outcome` is 1 repaired, 2 beyond repair, 3 spent; `count` the trials, or the limit where it is
@@ -597,4 +608,52 @@ pub extern "C" fn chantspruce_report_exactly(s: &[u8], out: &mut [u8]) -> Chants
         × (now (out .exit) ≡ reported Exact (now (s .entry)) (now (out .entry)) .1) ⌝ }
 {
     report_by(Planner::Exact, s, out)
+}
+
+#[no_mangle]
+pub extern "C" fn chantspruce_start_session(
+    n: usize,
+    m: usize,
+    grid: &[u8],
+    directions: &[u8],
+) -> ChantspruceStarted
+    ensures { λ r. ⌜ r ≡ flat-started (check-plan n m (now (grid .entry)) (now (directions .entry)))
+        (session-started n m (now (grid .entry)) (now (directions .entry))) ⌝ }
+{
+    let started = sessions::start_session(n, m, grid, directions);
+    let answer = started.answer;
+    let session = started.session;
+    let told = flat_verdict(answer);
+    ChantspruceStarted {
+        number: told.number,
+        place: told.place,
+        second: told.second,
+        session: session,
+    }
+}
+
+// The session is altered in place: its fields are handed to the step, and the session that comes back is stored.
+#[no_mangle]
+pub extern "C" fn chantspruce_report_processor(
+    s: &mut Session,
+    failing: bool,
+    position: usize,
+) -> ChantspruceVerdict
+    ensures verdict { λ r. ⌜ r ≡ flat-verdict (report-test (now (s .entry)) failing position) ⌝ }
+    ensures session { λ _. ⌜ now (s .exit) ≡ session-reported (now (s .entry)) failing position ⌝ }
+{
+    let r = sessions::report_fields(
+        s.rows,
+        s.columns,
+        s.grid,
+        s.directions,
+        s.south,
+        s.north,
+        s.east,
+        s.west,
+        failing,
+        position,
+    );
+    *s = r.session;
+    flat_verdict(r.answer)
 }
