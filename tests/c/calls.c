@@ -66,6 +66,27 @@ static void print_link(chantspruce_link a)
     printf(", position %zu, port %u, switches %u\n", a.position, (unsigned)a.port, (unsigned)a.switches);
 }
 
+/* Prints a result, and of its session the size, the sums of the marks and of the directions, and those of the counters. */
+static void print_started(chantspruce_started a)
+{
+    const uint8_t *const buffers[] = {a.session.grid, a.session.directions, a.session.south, a.session.north, a.session.east, a.session.west};
+    print_first("start_session", a.number, a.place, a.second);
+    printf(", rows %zu, columns %zu, sums", a.session.rows, a.session.columns);
+    for (size_t i = 0; i < sizeof buffers / sizeof buffers[0]; i++) {
+        unsigned sum = 0;
+        for (size_t p = 0; p < B; p++)
+            sum += buffers[i][p];
+        printf(" %u", sum);
+    }
+    puts("");
+}
+
+static void print_verdict(const char *call, chantspruce_verdict a)
+{
+    print_first(call, a.number, a.place, a.second);
+    puts("");
+}
+
 /* Prints a result and the listing that it tells of. */
 static void print_listing(const char *call, chantspruce_length a)
 {
@@ -201,6 +222,26 @@ static void call_exactly(void)
     print_listing("report_exactly", chantspruce_report_exactly(no_plan_file, sizeof no_plan_file, out, sizeof out));
 }
 
+/* A session of the first map: of its start, accepted and refused, and of a report to one whose bytes are no session. */
+static void call_session(void)
+{
+    print_head("read_map", chantspruce_read_map(map_file, sizeof map_file, grid, B));
+    print_plan_head(chantspruce_read_plan(plan_file, sizeof plan_file, directions, B));
+    print_started(chantspruce_start_session(2, 2, grid, B, directions, B - 1));
+    print_started(chantspruce_start_session(2, 3, grid, B, directions, B));
+    chantspruce_started field = chantspruce_start_session(2, 2, grid, B, directions, B);
+    print_started(field);
+    field.session.rows = SIZE_MAX;
+    print_verdict("report_processor", chantspruce_report_processor(&field.session, true, SIZE_MAX));
+    field.session.rows = 2;
+    print_verdict("report_processor", chantspruce_report_processor(&field.session, true, SIZE_MAX));
+    field.session.directions[CHANTSPRUCE_POSITION(1, 1)] = 0;
+    print_verdict("report_processor", chantspruce_report_processor(&field.session, false, CHANTSPRUCE_POSITION(1, 1)));
+    field.session.directions[CHANTSPRUCE_POSITION(1, 1)] = CHANTSPRUCE_SOUTH;
+    print_verdict("report_processor", chantspruce_report_processor(&field.session, false, CHANTSPRUCE_POSITION(1, 1)));
+    print_started(field);
+}
+
 int main(void)
 {
     call_readers();
@@ -210,6 +251,7 @@ int main(void)
     call_dead();
     call_quickly();
     call_exactly();
+    call_session();
     print_listing("report", chantspruce_report(map_file, sizeof map_file, out, sizeof out));
     print_bytes("report", chantspruce_report(map_file, sizeof map_file, out, 10));
     return 0;

@@ -39,13 +39,16 @@ static const char *reason(uint32_t number)
         "the file goes on after its last record",
         "a wrong direction in the file",
         "the room is too short",
-        "no such cell or side",
+        "no such cell or side, or no such processor",
         "a wrong letter of a switch",
         "the track ends",
         "a fourth switch",
         "a record is out of row order",
         "a dead processor that is not inside the array",
         "too many trials to be written",
+        "a report of nothing new",
+        "a failing processor on a path, or a recovering one that is dead",
+        "no direction for a failing processor",
     };
     return number < sizeof reasons / sizeof reasons[0] ? reasons[number] : "an unknown number";
 }

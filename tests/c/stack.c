@@ -115,6 +115,21 @@ static void call_run_exactly(void)
     number = chantspruce_run_exactly(4, 4, grid, B, directions, B, places, B, across, B, down, B).number;
 }
 
+static chantspruce_started field;
+
+static void call_start_session(void)
+{
+    field = chantspruce_start_session(4, 4, grid, B, directions, B);
+    number = field.number;
+}
+
+/* A processor that gets a path, and its recovery. */
+static void call_report_processor(void)
+{
+    number = chantspruce_report_processor(&field.session, true, CHANTSPRUCE_POSITION(4, 4)).number;
+    number |= chantspruce_report_processor(&field.session, false, CHANTSPRUCE_POSITION(4, 4)).number;
+}
+
 static void call_report(void)
 {
     number = chantspruce_report(map_file, sizeof map_file, out, sizeof out).number;
@@ -152,6 +167,8 @@ static const struct {
     {"repair_run", call_repair_run, 16},
     {"run_quickly", call_run_quickly, 16},
     {"run_exactly", call_run_exactly, 16},
+    {"start_session", call_start_session, 24},
+    {"report_processor", call_report_processor, 16},
     {"report", call_report, 52},
     {"report_quickly", call_report_quickly, 52},
     {"report_exactly", call_report_exactly, 52},

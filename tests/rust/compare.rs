@@ -1,6 +1,7 @@
 //! Compares every operation of the library with the reference, a million calls each, on sound and damaged inputs from fixed seeds.
 //! Every second call goes through the wrapper's safe functions, the others take the library's flat structs as they come. The program prints
-//! how often each answer came. It fails at the first difference, which it prints with all inputs, and when a possible answer never came.
+//! how often each answer came. An operation fails at its first difference, which is printed with all inputs, and when a possible answer never
+//! came. As many operations are compared at a time as the machine has cores.
 
 mod examples;
 mod guarded;
@@ -9,16 +10,20 @@ mod operations;
 mod reference;
 
 use chantspruce::Fault;
-use guarded::Guarded;
+use guarded::{Guarded, GuardedSession};
 use inputs::{Case, Maker};
 use operations::{Answer, OPERATIONS, Operation};
 use std::collections::BTreeMap;
+use std::num::NonZero;
 use std::process::ExitCode;
+use std::sync::OnceLock;
+use std::sync::atomic::{AtomicUsize, Ordering};
+use std::thread;
 
 /// How often each operation is called.
 const CALLS: usize = 1_000_000;
 
-/// The buffers of a call, each between guards.
+/// The buffers of a call and its session, each between guards.
 pub struct Buffers {
     pub grid: Guarded<u8>,
     pub directions: Guarded<u8>,
@@ -28,6 +33,7 @@ pub struct Buffers {
     pub down: Guarded<u8>,
     pub file: Guarded<u8>,
     pub out: Guarded<u8>,
+    pub session: GuardedSession,
 }
 
 impl Buffers {
@@ -41,6 +47,7 @@ impl Buffers {
             down: Guarded::new(u8::from),
             file: Guarded::new(u8::from),
             out: Guarded::new(u8::from),
+            session: GuardedSession::new(),
         }
     }
 
@@ -53,6 +60,9 @@ impl Buffers {
         self.down.set(&case.down);
         self.file.set(&case.file);
         self.out.set(&case.out);
+        if let Some(session) = &case.session {
+            self.session.set(session);
+        }
     }
 
     /// The first buffer that differs from the case's or has a guard changed.
@@ -66,6 +76,7 @@ impl Buffers {
             ("down", self.down.holds(&case.down)),
             ("file", self.file.holds(&case.file)),
             ("out", self.out.holds(&case.out)),
+            ("session", case.session.as_ref().is_none_or(|session| self.session.holds(session))),
         ];
         held.into_iter().find(|(_, same)| !same).map(|(name, _)| name)
     }
@@ -97,6 +108,7 @@ fn held(buffers: &mut Buffers, name: &str, after: &Case) -> String {
         "down" => (&mut buffers.down, &after.down),
         "file" => (&mut buffers.file, &after.file),
         "out" => (&mut buffers.out, &after.out),
+        "session" => return format!("it holds {:?}\nshould be {:?}", buffers.session.lend(), after.session),
         "faults" => return format!("it holds {:?}\nshould be {:?}", buffers.faults.lend(), after.faults),
         _ => return format!("places {:?}\nshould be {:?}", buffers.places.lend(), after.places),
     };
@@ -151,13 +163,32 @@ fn print(operation: &Operation, tally: &Tally) {
     }
 }
 
-fn passes(operation: &Operation) -> bool {
-    let problem = match compare(operation) {
-        Ok(tally) => {
-            print(operation, &tally);
-            lacking(operation, &tally)
+/// What each operation's comparison found, in their order.
+fn compare_all() -> Vec<OnceLock<Result<Tally, String>>> {
+    let found: Vec<_> = OPERATIONS.iter().map(|_| OnceLock::new()).collect();
+    let turns: Vec<_> = OPERATIONS.iter().zip(&found).collect();
+    let next = AtomicUsize::new(0);
+    let cores = thread::available_parallelism().map_or(1, NonZero::get);
+    thread::scope(|scope| {
+        for _ in 0..cores {
+            scope.spawn(|| {
+                while let Some(&(operation, place)) = turns.get(next.fetch_add(1, Ordering::Relaxed)) {
+                    let _ = place.set(compare(operation));
+                }
+            });
         }
-        Err(found) => Some(found),
+    });
+    found
+}
+
+fn passes(operation: &Operation, found: Option<&Result<Tally, String>>) -> bool {
+    let problem = match found {
+        Some(Ok(tally)) => {
+            print(operation, tally);
+            lacking(operation, tally)
+        }
+        Some(Err(found)) => Some(found.clone()),
+        None => Some("not compared".to_string()),
     };
     if let Some(problem) = &problem {
         println!("FAILED {}: {problem}", operation.name);
@@ -170,7 +201,8 @@ fn main() -> ExitCode {
         println!("FAILED: the reference does not give {example}");
         return ExitCode::FAILURE;
     }
-    if !OPERATIONS.iter().all(passes) {
+    let found = compare_all();
+    if !OPERATIONS.iter().zip(&found).all(|(operation, found)| passes(operation, found.get())) {
         return ExitCode::FAILURE;
     }
     println!("all {} comparisons agree with the reference", OPERATIONS.len());

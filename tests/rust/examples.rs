@@ -205,6 +205,38 @@ fn trials_hold() -> bool {
     ends && bytes && order && write(&plan, 2_097_152, 0) == Err((4, 34))
 }
 
+/// A list of reports to a 2 x 2 session without faults: fails or recovers, where, and the answer (the direction, or the refusal and its place),
+/// then the counters of the inner processors in row order, south, north, east and west of each.
+fn reports_hold() -> bool {
+    let reports: [(bool, Cell, Result<u8, (u32, usize)>); 14] = [
+        (true, (1, 1), Ok(1)),
+        (true, (1, 1), Err((22, 33))),
+        (true, (2, 1), Err((23, 65))),
+        (true, (3, 1), Err((23, 97))),
+        (true, (2, 2), Ok(1)),
+        (true, (1, 3), Ok(0)),
+        (true, (0, 2), Ok(0)),
+        (true, (1, 2), Err((24, 34))),
+        (false, (1, 3), Ok(0)),
+        (true, (1, 2), Ok(3)),
+        (false, (1, 1), Ok(1)),
+        (false, (1, 1), Err((22, 33))),
+        (true, (0, 0), Err((15, 0))),
+        (true, (4, 1), Err((15, 0))),
+    ];
+    let mut grid = [0; LENGTH];
+    let map = reference::read_map(&[2, 2, 0], &mut grid);
+    let Ok(mut session) = reference::start_session(2, 2, &grid, &[0; LENGTH]) else {
+        return false;
+    };
+    let answered = reports.iter().all(|&(failing, place, wanted)| {
+        let answer = reference::report_processor(&mut session, failing, position(place));
+        answer.map(|change| change.direction).map_err(|e| (e.number, e.place)) == wanted
+    });
+    let counters = [33, 34, 65, 66].map(|p| [0, 1, 2, 3].map(|d: usize| session.counters[d][p]));
+    map.is_ok() && answered && counters == [[0, 0, 1, 0], [1, 0, 0, 0], [0, 0, 1, 0], [0, 1, 0, 0]]
+}
+
 /// What does not hold, if anything.
 pub fn failing() -> Option<String> {
     let failed = EXAMPLES.iter().position(|e| !e.holds(search_all)).map(|i| format!("example {i}"));
@@ -220,5 +252,6 @@ pub fn failing() -> Option<String> {
         .or((!refusals_hold()).then(|| "the refusals".to_string()))
         .or((!numbers_hold()).then(|| "the numbers of files".to_string()))
         .or((!trials_hold()).then(|| "the trials on record".to_string()))
+        .or((!reports_hold()).then(|| "the reports to a session".to_string()))
         .or((position((3, 2)) != 98).then(|| "positions".to_string()))
 }

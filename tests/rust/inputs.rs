@@ -1,10 +1,10 @@
-//! The inputs of the comparison: maps, plans, switches and files, sound and damaged, from a fixed seed for each operation.
+//! The inputs of the comparison: maps, plans, switches, files and sessions, sound and damaged, from a fixed seed for each operation.
 
 use chantspruce::Fault;
 
 use crate::reference::{
-    self, Array, Cell, DEAD, DIRECTIONS, Direction, FAULTY, HEALTHY, HIGHEST, LENGTH, NO_PROCESSOR, Outcome, Path, Planner, is_faulty,
-    is_outermost, position,
+    self, Array, Cell, Change, DEAD, DIRECTIONS, Direction, FAULTY, HEALTHY, HIGHEST, LENGTH, NO_PROCESSOR, Outcome, Path, Planner,
+    Session, is_faulty, is_outermost, position,
 };
 use std::collections::BTreeSet;
 
@@ -26,6 +26,12 @@ pub struct Case {
     pub down: Vec<u8>,
     pub file: Vec<u8>,
     pub out: Vec<u8>,
+    /// The session that a call is handed or gives, and the report.
+    pub session: Option<Session>,
+    pub failing: bool,
+    pub place: usize,
+    /// What an accepted report changes, set by the reference.
+    pub change: Change,
 }
 
 /// Sizes that no array has.
@@ -80,6 +86,19 @@ const PLAN_DAMAGES: [Damage; 10] = [
     Maker::turn_direction,
 ];
 
+/// Damages of a session's size, grid and directions, whose lengths are fixed.
+const SESSION_DAMAGES: [Damage; 9] = [
+    Maker::bad_size,
+    Maker::other_size,
+    Maker::bad_mark,
+    Maker::dead_outside,
+    Maker::turn_health,
+    Maker::dead_fault,
+    Maker::bad_direction,
+    Maker::lost_direction,
+    Maker::turn_direction,
+];
+
 const LIST_DAMAGES: [Damage; 12] = [
     Maker::bad_size,
     Maker::other_size,
@@ -104,11 +123,14 @@ pub struct Maker {
     noise_words: Vec<u16>,
     /// How many of the pairs of bytes were made into a file so far.
     pairs: usize,
+    /// The session that a list of reports has reached, and how many reports are left of it.
+    field: Option<Session>,
+    left: usize,
 }
 
 impl Maker {
     pub fn new(seed: u64) -> Maker {
-        let mut maker = Maker { state: seed, noise: Vec::new(), noise_words: Vec::new(), pairs: 0 };
+        let mut maker = Maker { state: seed, noise: Vec::new(), noise_words: Vec::new(), pairs: 0, field: None, left: 0 };
         maker.noise = (0..1 << 16).map(|_| maker.random() as u8).collect();
         maker.noise_words = (0..1 << 16).map(|_| maker.random() as u16).collect();
         maker
@@ -630,6 +652,81 @@ impl Maker {
         if let Some(at) = self.entry(case) {
             case.faults[at].direction = self.pick(&[0, 1, 2, 3, 4, 5, 255]);
         }
+    }
+
+    /// A session with a report. In one of three its size, grid or directions are damaged, in one of three its counters; the others
+    /// have right counters where their directions are a plan.
+    pub fn for_report_processor(&mut self) -> Case {
+        let array = self.array(512, 4);
+        let mut case = if self.one_in(8) { self.with_directions(array) } else { self.planned(array) };
+        let right = reference::start_session(case.n, case.m, &case.grid, &case.directions).map(|session| session.counters);
+        let mut counters = right.unwrap_or_else(|_| [(); 4].map(|()| self.noise(LENGTH).to_vec()));
+        self.spoil(&mut case, 3, &SESSION_DAMAGES);
+        if self.one_in(3) {
+            self.spoil_counters(&case, &mut counters);
+        }
+        let (grid, directions) = (std::mem::take(&mut case.grid), std::mem::take(&mut case.directions));
+        let session = Session { rows: case.n, columns: case.m, grid, directions, counters };
+        self.with_report(case, session)
+    }
+
+    /// Changes the four counters: one buffer or all, one byte, all bytes to an end or near it, or all to any bytes.
+    fn spoil_counters(&mut self, case: &Case, counters: &mut [Vec<u8>; 4]) {
+        let chosen = self.below(5);
+        for buffer in counters.iter_mut().enumerate().filter(|(i, _)| chosen == 4 || chosen == *i).map(|(_, b)| b) {
+            match self.below(4) {
+                0 => buffer[self.place(case)] = self.pick(&[0, 1, 2, 254, 255]),
+                1 => buffer.fill(self.pick(&[0, 0, 1, 254, 255])),
+                2 => buffer.iter_mut().for_each(|b| *b = self.pick(&[0, 0, 0, 1, 255])),
+                _ => buffer.copy_from_slice(self.noise(LENGTH)),
+            }
+        }
+    }
+
+    /// Adds a report of a processor, or of a place where there may be none.
+    fn with_report(&mut self, mut case: Case, session: Session) -> Case {
+        let array = Array { rows: session.rows.min(30), columns: session.columns.min(30) };
+        let array = if array.rows * array.columns == 0 { Array { rows: 1, columns: 1 } } else { array };
+        let faults: Vec<usize> = (0..LENGTH).filter(|&p| is_faulty(session.grid[p])).collect();
+        (case.n, case.m) = (session.rows, session.columns);
+        case.place = match self.below(16) {
+            0 => self.place(&case),
+            1 => {
+                case.cell = position(self.inner(array));
+                self.bad_cell(&mut case);
+                case.cell
+            }
+            2 | 3 => position(self.spare(array)),
+            4..=7 if !faults.is_empty() => self.pick(&faults),
+            _ => position(self.inner(array)),
+        };
+        let is_fault = session.grid.get(case.place).is_some_and(|&mark| is_faulty(mark));
+        case.failing = if self.one_in(8) { is_fault } else { !is_fault };
+        case.session = Some(session);
+        case
+    }
+
+    /// The next report of a list to a session that began with an accepted start.
+    pub fn for_field(&mut self) -> Case {
+        while self.left == 0 {
+            let array = self.array(512, 5);
+            let case = if self.one_in(4) { self.directed_healthy(array) } else { self.planned(array) };
+            self.field = reference::start_session(case.n, case.m, &case.grid, &case.directions).ok();
+            self.left = if self.field.is_some() { 1 + self.below(60) } else { 0 };
+        }
+        self.left -= 1;
+        let session = self.field.clone().unwrap_or_else(reference::no_session);
+        let case = self.with_report(Case::default(), session);
+        if let Some(session) = &mut self.field {
+            reference::report_processor(session, case.failing, case.place).ok();
+        }
+        case
+    }
+
+    /// A map without a fault, and its plan.
+    fn directed_healthy(&mut self, array: Array) -> Case {
+        let case = self.healthy(array);
+        self.directed(case)
     }
 
     pub fn for_placing(&mut self) -> Case {

@@ -63,6 +63,15 @@ const NO_TRIALS: u32 = 119;
 const DIRECTION_AND_TRIALS: u32 = 120;
 const TRIALS_AND_ROOM: u32 = 121;
 
+/// Kinds of reports to a session: a direction is added to the first two, 0 for a spare, and the number of a refusal to the third. The last one
+/// should not come.
+const TAKES: u32 = 130;
+const GIVES_UP: u32 = 135;
+const RECOVERING: u32 = 120;
+const STOPS_AT_255: u32 = 150;
+const STOPS_AT_0: u32 = 151;
+const NOT_SOUND: u32 = 152;
+
 /// Added to the kind of an outcome of the quick and of the exact planner where there is an inner fault: the quick one settles
 /// none of them, some or all.
 /// Each is a multiple of the first, which is above all kinds that have no addition.
@@ -77,6 +86,8 @@ const IN_TRIALS: u32 = 800;
 /// repair where with ordinary faults in place of the dead processors, and at most `ENOUGH` trials, the answer is of another kind; and to that
 /// of a refusal in the second list of a map file.
 pub const DEAD: u32 = 1000;
+
+const DIRECTION_NAMES: [&str; 4] = ["south", "north", "east", "west"];
 
 pub fn kind_name(kind: u32) -> String {
     match kind {
@@ -102,6 +113,14 @@ pub fn kind_name(kind: u32) -> String {
         NO_TRIALS => "refused 8, no trials".to_string(),
         DIRECTION_AND_TRIALS => "refused 4, too many trials too".to_string(),
         TRIALS_AND_ROOM => "refused 21, no room either".to_string(),
+        TAKES => "failing, a spare".to_string(),
+        131..=134 => format!("failing, takes {}", DIRECTION_NAMES[(kind - TAKES) as usize - 1]),
+        GIVES_UP => "recovering, a spare".to_string(),
+        136..=139 => format!("recovering, gives up {}", DIRECTION_NAMES[(kind - GIVES_UP) as usize - 1]),
+        142 | 143 => format!("recovering, refused {}", kind - RECOVERING),
+        STOPS_AT_255 => "failing, a counter stops at 255".to_string(),
+        STOPS_AT_0 => "recovering, a counter stops at 0".to_string(),
+        NOT_SOUND => "a session that is not sound".to_string(),
         DEAD.. => format!("{}, dead", kind_name(kind - DEAD)),
         IN_TRIALS.. => format!("{}, in the trials", kind_name(kind - IN_TRIALS)),
         ALL_SETTLED.. => format!("{}, all settled", kind_name(kind - ALL_SETTLED)),
@@ -134,6 +153,24 @@ fn by_listing(answer: &Answer, after: &Case) -> u32 {
         Some(b'b') => BEYOND,
         _ => SPENT,
     }
+}
+
+/// The kind of a report's answer, by what it changes.
+fn by_report(answer: &Answer, after: &Case) -> u32 {
+    let direction = u32::from(after.change.direction);
+    match (answer.number, after.failing) {
+        (0, true) if after.change.stopped => STOPS_AT_255,
+        (0, false) if after.change.stopped => STOPS_AT_0,
+        (0, true) => TAKES + direction,
+        (0, false) => GIVES_UP + direction,
+        (number @ (22 | 23), false) => RECOVERING + number,
+        (number, _) => number,
+    }
+}
+
+/// The same of a list of reports, after each of which the session should be sound.
+fn by_sound_report(answer: &Answer, after: &Case) -> u32 {
+    if after.session.as_ref().is_some_and(reference::is_sound) { by_report(answer, after) } else { NOT_SOUND }
 }
 
 /// The kind of the quick or the exact planner's answer, with how much the quick one settles.
@@ -340,7 +377,7 @@ fn told<T>(result: Result<T, reference::Refusal>, values: impl Fn(T) -> Values) 
 }
 
 /// The wrapper's.
-fn said<T>(result: Result<T, chantspruce::Refusal>, values: impl Fn(T) -> Values) -> Answer {
+fn said<T>(result: Result<T, chantspruce::Refusal>, values: impl FnOnce(T) -> Values) -> Answer {
     match result {
         Ok(value) => Answer { number: 0, place: 0, second: 0, values: values(value) },
         Err(e) => Answer { number: number_of(e), place: e.place, second: e.second, values: NO_VALUES },
@@ -371,6 +408,9 @@ fn number_of(refusal: chantspruce::Refusal) -> u32 {
         Reason::RecordOrder => 19,
         Reason::DeadPlace => 20,
         Reason::Trials => 21,
+        Reason::NothingNew => 22,
+        Reason::InUseOrDead => 23,
+        Reason::NoDirection => 24,
         Reason::Unknown => u32::MAX,
     };
     if refusal.number() == number { number } else { u32::MAX }
@@ -429,6 +469,10 @@ fn link_said(link: chantspruce::Link) -> Values {
 // The library's: every field of its structs.
 
 fn verdict(a: flat::Verdict) -> Answer {
+    Answer { number: a.number, place: a.place, second: a.second, values: NO_VALUES }
+}
+
+fn started(a: &flat::Started) -> Answer {
     Answer { number: a.number, place: a.place, second: a.second, values: NO_VALUES }
 }
 
@@ -498,7 +542,7 @@ const EXACT_KINDS: [u32; 15] = [
     DEAD + 3,
 ];
 
-pub const OPERATIONS: [Operation; 21] = [
+pub const OPERATIONS: [Operation; 24] = [
     CHECK_PLAN,
     CHECK_FAULT_LIST,
     PLAN_REPAIR,
@@ -520,6 +564,9 @@ pub const OPERATIONS: [Operation; 21] = [
     REPORT,
     REPORT_QUICKLY,
     REPORT_EXACTLY,
+    START_SESSION,
+    REPORT_PROCESSOR,
+    LIST_OF_REPORTS,
 ];
 
 const CHECK_PLAN: Operation = Operation {
@@ -929,3 +976,118 @@ const REPORT_EXACTLY: Operation = Operation {
     ],
     sized: true,
 };
+
+/// A refused start has a session of zeros beside it; the wrapper's has none.
+const START_SESSION: Operation = Operation {
+    name: "start_session",
+    seed: 22,
+    make: Maker::for_check,
+    reference: |c| {
+        let result = reference::start_session(c.n, c.m, &c.grid, &c.directions);
+        c.session = Some(result.clone().unwrap_or_else(|_| reference::no_session()));
+        told(result, |_| NO_VALUES)
+    },
+    flat: |c, b| {
+        let result = flat::start_session(c.n, c.m, b.grid.lend(), b.directions.lend());
+        *b.session.lend() = result.session.clone();
+        started(&result)
+    },
+    safe: |c, b| {
+        let result = chantspruce::Session::start(c.n, c.m, b.grid.lend(), b.directions.lend());
+        b.session.set(&reference::no_session());
+        said(result, |session| {
+            *b.session.lend() = session;
+            NO_VALUES
+        })
+    },
+    kind: by_number,
+    dead: in_grid,
+    kinds: &[0, 1, 2, 3, 4, 5, 6, 7, DEAD, DEAD + 3, DEAD + 5],
+    sized: true,
+};
+
+/// A report to a session that may be damaged or have any counters.
+const REPORT_PROCESSOR: Operation = Operation {
+    name: "report_processor",
+    seed: 23,
+    make: Maker::for_report_processor,
+    reference: report_told,
+    flat: report_flat,
+    safe: report_said,
+    kind: by_report,
+    dead: never,
+    kinds: &[
+        1,
+        3,
+        4,
+        5,
+        6,
+        7,
+        15,
+        22,
+        23,
+        24,
+        RECOVERING + 22,
+        RECOVERING + 23,
+        TAKES,
+        TAKES + 1,
+        TAKES + 2,
+        TAKES + 3,
+        TAKES + 4,
+        GIVES_UP,
+        GIVES_UP + 1,
+        GIVES_UP + 2,
+        GIVES_UP + 3,
+        GIVES_UP + 4,
+        STOPS_AT_255,
+        STOPS_AT_0,
+    ],
+    sized: true,
+};
+
+/// Lists of reports from accepted starts on: each report is made to the session that the reports before it have left.
+const LIST_OF_REPORTS: Operation = Operation {
+    name: "report_processor, in lists",
+    seed: 24,
+    make: Maker::for_field,
+    reference: report_told,
+    flat: report_flat,
+    safe: report_said,
+    kind: by_sound_report,
+    dead: never,
+    kinds: &[
+        15,
+        22,
+        23,
+        24,
+        RECOVERING + 22,
+        RECOVERING + 23,
+        TAKES,
+        TAKES + 1,
+        TAKES + 2,
+        TAKES + 3,
+        TAKES + 4,
+        GIVES_UP,
+        GIVES_UP + 1,
+        GIVES_UP + 2,
+        GIVES_UP + 3,
+        GIVES_UP + 4,
+    ],
+    sized: true,
+};
+
+fn report_told(c: &mut Case) -> Answer {
+    let result = c.session.as_mut().map(|session| reference::report_processor(session, c.failing, c.place));
+    let result = result.expect("a session");
+    c.change = result.unwrap_or_default();
+    told(result, |_| NO_VALUES)
+}
+
+fn report_flat(c: &Case, b: &mut Buffers) -> Answer {
+    verdict(flat::report_processor(b.session.lend(), c.failing, c.place))
+}
+
+fn report_said(c: &Case, b: &mut Buffers) -> Answer {
+    let session = b.session.lend();
+    said(if c.failing { session.fail(c.place) } else { session.recover(c.place) }, |()| NO_VALUES)
+}

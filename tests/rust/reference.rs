@@ -299,6 +299,114 @@ pub fn check_fault_list(n: usize, m: usize, grid: &[u8], list: &[(usize, u8)]) -
     test_paths(grid, &faults.iter().zip(list).map(path).collect::<Vec<Path>>())
 }
 
+// Sessions.
+
+/// A map with its plan, and how many paths stand in the way of one from each inner position: south, north, east, west.
+#[derive(Clone, Debug, PartialEq, Eq)]
+pub struct Session {
+    pub rows: usize,
+    pub columns: usize,
+    pub grid: Vec<u8>,
+    pub directions: Vec<u8>,
+    pub counters: [Vec<u8>; 4],
+}
+
+/// What a report changed: the direction of the path that came or went, 0 for none, and whether a counter was at its end already.
+#[derive(Clone, Copy, Debug, Default, PartialEq, Eq)]
+pub struct Change {
+    pub direction: u8,
+    pub stopped: bool,
+}
+
+/// The session beside a refused start.
+pub fn no_session() -> Session {
+    let zeros = || vec![0; LENGTH];
+    Session { rows: 0, columns: 0, grid: zeros(), directions: zeros(), counters: [zeros(), zeros(), zeros(), zeros()] }
+}
+
+/// The positions of a path, a bit for each.
+fn bits(path: &Path) -> [u64; LENGTH / 64] {
+    let mut bits = [0; LENGTH / 64];
+    path.cells.iter().map(|&c| position(c)).for_each(|p| bits[p / 64] |= 1 << (p % 64));
+    bits
+}
+
+/// For each direction and inner position, how many of these paths, but for the one from there, meet or nearly miss a path from there.
+pub fn count(array: Array, kept: &[Path]) -> [Vec<u8>; 4] {
+    let taken: Vec<[u64; LENGTH / 64]> = kept.iter().map(bits).collect();
+    DIRECTIONS.map(|direction| {
+        let mut counters = vec![0; LENGTH];
+        for c in array.inner_cells() {
+            let path = Path::new(array, c, direction);
+            let own = bits(&path);
+            let meets = |with: &[u64; LENGTH / 64]| own.iter().zip(with).any(|(a, b)| a & b != 0);
+            let clashing = kept.iter().zip(&taken).filter(|&(k, t)| k.start != c && (meets(t) || path.nearly_misses(k)));
+            counters[position(c)] = clashing.count().min(255) as u8;
+        }
+        counters
+    })
+}
+
+pub fn start_session(n: usize, m: usize, grid: &[u8], directions: &[u8]) -> Result<Session, Refusal> {
+    let plan = test_plan(n, m, grid, directions, &[])?;
+    let counters = count(plan.array, &plan.paths);
+    Ok(Session { rows: n, columns: m, grid: grid.to_vec(), directions: directions.to_vec(), counters })
+}
+
+/// Whether its directions are a plan and its counters are those made afresh.
+pub fn is_sound(session: &Session) -> bool {
+    start_session(session.rows, session.columns, &session.grid, &session.directions).as_ref() == Ok(session)
+}
+
+/// A processor fails or recovers; the session is altered where this is accepted.
+pub fn report_processor(session: &mut Session, failing: bool, place: usize) -> Result<Change, Refusal> {
+    let Planned { array, paths } = test_plan(session.rows, session.columns, &session.grid, &session.directions, &[])?;
+    let at = cell(place);
+    if !array.is_processor(at) {
+        return refuse(15, 0);
+    }
+    if is_faulty(session.grid[place]) == failing {
+        return refuse(22, place);
+    }
+    let direction = if failing {
+        if paths.iter().any(|path| path.cells.contains(&at)) {
+            return refuse(23, place);
+        }
+        if array.is_inner(at) { free_direction(array, session, at).map_or_else(|| refuse(24, place), |d| Ok(d as u8))? } else { 0 }
+    } else {
+        if session.grid[place] == DEAD {
+            return refuse(23, place);
+        }
+        session.directions[place]
+    };
+    (session.grid[place], session.directions[place]) = if failing { (FAULTY, direction) } else { (HEALTHY, 0) };
+    let path = DIRECTIONS.into_iter().find(|&d| d as u8 == direction).map(|d| Path::new(array, at, d));
+    let stopped = path.is_some_and(|path| alter_counters(array, session, &path, failing));
+    Ok(Change { direction, stopped })
+}
+
+fn free_direction(array: Array, session: &Session, at: Cell) -> Option<Direction> {
+    let is_free = |d: Direction| session.counters[d as usize - 1][position(at)] == 0;
+    DIRECTIONS.into_iter().find(|&d| Path::new(array, at, d).is_open(&session.grid) && is_free(d))
+}
+
+/// Alters the counters of other processors that a path counts in, and says whether one of these was at its end.
+fn alter_counters(array: Array, session: &mut Session, path: &Path, up: bool) -> bool {
+    let mut stopped = false;
+    for c in array.inner_cells().filter(|&c| c != path.start) {
+        for direction in DIRECTIONS {
+            let own = Path::new(array, c, direction);
+            if own.meets(path) || own.nearly_misses(path) {
+                let counter = &mut session.counters[direction as usize - 1][position(c)];
+                let new = if up { counter.checked_add(1) } else { counter.checked_sub(1) };
+                stopped |= new.is_none();
+                *counter = new.unwrap_or(*counter);
+            }
+        }
+    }
+    stopped
+}
+
 // The planners.
 
 struct Search<'a> {

@@ -217,6 +217,106 @@ pub fn check_plan(n: usize, m: usize, grid: &[u8], directions: &[u8]) -> Tested 
     check_tests(n, m, grid.len() == LONG && directions.len() == LONG, grid, directions)
 }
 
+// Sessions.
+
+#[derive(Clone)]
+pub struct Session {
+    pub n: usize,
+    pub m: usize,
+    pub grid: [u8; LONG],
+    pub directions: [u8; LONG],
+    /// South, north, east, west.
+    pub counters: [[u8; LONG]; 4],
+}
+
+fn is_on(n: usize, m: usize, p: usize, q: usize, e: u8) -> bool {
+    let (x, y, v, w) = (p / 32, p % 32, q / 32, q % 32);
+    let (top, bottom) = (if e == 2 { 0 } else { v }, if e == 1 { n + 1 } else { v });
+    let (left, right) = (if e == 4 { 0 } else { w }, if e == 3 { m + 1 } else { w });
+    top <= x && x <= bottom && left <= y && y <= right
+}
+
+/// The counter of direction d at p, where the path from q in direction e comes (up) or goes.
+#[allow(clippy::too_many_arguments)]
+fn alter_at(table: &[u8; 400], n: usize, m: usize, up: bool, q: usize, e: u8, d: u8, p: usize, counter: u8) -> u8 {
+    if !is_inner(n, m, p) || p == q {
+        return counter;
+    }
+    if find_entry(table, (p / 32) as u8, (p % 32) as u8, d, (q / 32) as u8, (q % 32) as u8, e) == 0 {
+        return counter;
+    }
+    if up { counter.saturating_add(1) } else { counter.saturating_sub(1) }
+}
+
+impl Session {
+    /// Alters the counters by the path from q in direction e, in place.
+    fn alter_all(&mut self, up: bool, q: usize, e: u8) {
+        let (n, m) = (self.n, self.m);
+        let [south, north, east, west] = &mut self.counters;
+        for p in 0..LONG {
+            south[p] = alter_at(&CLASHES, n, m, up, q, e, 1, p, south[p]);
+            north[p] = alter_at(&CLASHES, n, m, up, q, e, 2, p, north[p]);
+            east[p] = alter_at(&CLASHES, n, m, up, q, e, 3, p, east[p]);
+            west[p] = alter_at(&CLASHES, n, m, up, q, e, 4, p, west[p]);
+        }
+    }
+
+    fn judge_failing(&self, p: usize) -> Result<u8, Refusal> {
+        let (n, m) = (self.n, self.m);
+        if is_faulty(self.grid[p]) {
+            return refuse(22, p, 0);
+        }
+        for (q, &e) in self.directions.iter().enumerate() {
+            if e != 0 && is_on(n, m, p, q, e) {
+                return refuse(23, p, 0);
+            }
+        }
+        if !is_inner(n, m, p) {
+            return Ok(0);
+        }
+        let qualifies = |d: &u8| self.counters[*d as usize - 1][p] == 0 && is_open(n, m, &self.grid, p, *d);
+        (1..=4).find(qualifies).map_or_else(|| refuse(24, p, 0), Ok)
+    }
+
+    fn judge(&self, failing: bool, p: usize) -> Result<u8, Refusal> {
+        check_plan(self.n, self.m, &self.grid, &self.directions)?;
+        if !is_processor_at(self.n, self.m, p / 32, p % 32) {
+            return refuse(15, 0, 0);
+        }
+        if failing {
+            return self.judge_failing(p);
+        }
+        match self.grid[p] {
+            0 => refuse(22, p, 0),
+            3 => refuse(23, p, 0),
+            _ => Ok(self.directions[p]),
+        }
+    }
+
+    pub fn report(&mut self, failing: bool, p: usize) -> Tested {
+        let e = self.judge(failing, p)?;
+        self.grid[p] = u8::from(failing);
+        self.directions[p] = if failing { e } else { 0 };
+        if e != 0 {
+            self.alter_all(failing, p, e);
+        }
+        Ok(())
+    }
+}
+
+pub fn start_session(n: usize, m: usize, grid: &[u8], directions: &[u8]) -> Result<Session, Refusal> {
+    check_plan(n, m, grid, directions)?;
+    let mut session = Session { n, m, grid: [0; LONG], directions: [0; LONG], counters: [[0; LONG]; 4] };
+    session.grid.copy_from_slice(grid);
+    session.directions.copy_from_slice(directions);
+    for (q, &e) in directions.iter().enumerate() {
+        if e != 0 {
+            session.alter_all(true, q, e);
+        }
+    }
+    Ok(session)
+}
+
 // The planner.
 
 #[derive(Clone, Copy, Debug, PartialEq)]

@@ -335,6 +335,54 @@ fn compare_run(faults: usize) {
     );
 }
 
+fn assert_same(a: &chantspruce::Session, b: &same::Session) {
+    let counters = [&a.south, &a.north, &a.east, &a.west];
+    let alike = (a.rows, a.columns, &a.grid, &a.directions) == (b.n, b.m, &b.grid, &b.directions);
+    assert!(alike && counters.iter().zip(&b.counters).all(|(a, b)| *a == b), "two sessions");
+}
+
+/// The start of a session, and a report with the report that takes it back, of the first processor that gets a path.
+fn compare_session(faults: usize) {
+    let grid = find_map(faults, 1_000_000, |o| matches!(o, Outcome::Repaired(_)));
+    let mut directions = vec![0; LONG];
+    same::plan_repair(30, 30, &grid, &mut directions, 1_000_000).expect("a plan");
+    let directions = directions;
+    compare(
+        &format!("start_session, 30 x 30, {faults} faults"),
+        50,
+        &mut || {
+            black_box(chantspruce::Session::start(30, 30, black_box(&grid), &directions)).ok();
+        },
+        &mut || {
+            black_box(same::start_session(30, 30, black_box(&grid), &directions)).ok();
+        },
+    );
+    let mut a = chantspruce::Session::start(30, 30, &grid, &directions).expect("a plan");
+    let mut b = same::start_session(30, 30, &grid, &directions).expect("a plan");
+    assert_same(&a, &b);
+    let gets_path = |&p: &usize| b.clone().report(true, p).is_ok() && (1..=30).contains(&(p / 32)) && (1..=30).contains(&(p % 32));
+    let place = (0..LONG).find(gets_path).expect("a processor that gets a path");
+    a.fail(place).expect("a report");
+    b.report(true, place).expect("a report");
+    assert_same(&a, &b);
+    a.recover(place).expect("a report");
+    b.report(false, place).expect("a report");
+    assert_same(&a, &b);
+    compare(
+        &format!("fail and recover, 30 x 30, {faults} faults"),
+        50,
+        &mut || {
+            black_box(a.fail(black_box(place))).ok();
+            black_box(a.recover(black_box(place))).ok();
+        },
+        &mut || {
+            black_box(b.report(true, black_box(place))).ok();
+            black_box(b.report(false, black_box(place))).ok();
+        },
+    );
+    assert_same(&a, &b);
+}
+
 /// Prints the microseconds from the bytes of an example's map file to its listing, which is all that the bench program does between reading and
 /// writing.
 fn measure_listing(name: &str) {
@@ -359,6 +407,7 @@ fn main() {
     compare_plan(20);
     compare_plan(50);
     compare_run(20);
+    compare_session(40);
     for name in ["first", "large", "beyond", "spent"] {
         measure_listing(name);
     }
