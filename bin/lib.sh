@@ -15,7 +15,8 @@ readable() {
 }
 
 # `ready SCRIPT CRATE` proves and builds the program of a crate on first use and after a change of the sources, which is told on standard error,
-# and sets `program`. It ends the script where there is no proof. rt runs the program too, for which descriptor 3 is closed.
+# and sets `program`. It ends the script where there is no proof. rt runs the program too, for which the descriptors 3 and 4 are closed; the
+# script's own standard input is left for the program.
 ready() {
     program=$root/target/bin/$2
     log=$root/target/$1.log
@@ -31,7 +32,7 @@ ready() {
         exit 2
     fi
     echo "bin/$1: proving and building the program; this takes some minutes the first time" >&2
-    (cd "$root" && rt check "$2" 2>&1 3<&-) | tee "$log" | grep '^rt:' >&2
+    (cd "$root" && rt check "$2" 2>&1 < /dev/null 3<&- 4<&-) | tee "$log" | grep '^rt:' >&2
     if ! grep -q '^rt: ok' "$log" || [ ! -x "$program" ]; then
         echo "bin/$1: the program is not proved, so it is not run; $log says why" >&2
         exit 2
@@ -72,13 +73,16 @@ meaning() {
         12) echo "byte $2: bytes follow the last record or the trials, or the number of dead processors is 0" ;;
         13) echo "byte $2: a direction is not 1 to 4" ;;
         14) echo "what is to be written needs room for $2 bytes" ;;
-        15) echo "there is no such cell or no such side" ;;
+        15) echo "there is no such cell, no such side, or no processor where one is reported" ;;
         16) echo "$here: a switch letter that cannot stand there" ;;
         17) echo "$here: the track ends there" ;;
         18) echo "$here: the link would enter a fourth switch there" ;;
         19) echo "byte $2: a place is out of row order (from the top row down, each row from the left)" ;;
         20) echo "byte $2: a dead processor is not inside the array" ;;
         21) echo "the trials to be written are more than 2,097,151, the highest number of a file" ;;
+        22) echo "$here: the failing processor is faulty already, or the recovering one is healthy" ;;
+        23) echo "$here: the failing processor lies on the path of a fault, or the recovering one is dead" ;;
+        24) echo "$here: no direction is left for the failing processor: each path is closed, or meets or nearly misses another" ;;
         *) echo "place $2: a reason that this script does not know" ;;
     esac
 }
@@ -90,4 +94,34 @@ tell_refusal() {
     if [ -n "$refusal" ]; then
         echo "bin/$1: '$3' is no $2 file: $(meaning "${refusal% *}" "${refusal#* }" 0) (refusal ${refusal% *})" >&2
     fi
+}
+
+# `counted NUMBER THING` prints a number of things.
+counted() {
+    case $1 in 1) echo "1 $2" ;; *) echo "$1 $2s" ;; esac
+}
+
+# `tell_files SCRIPT MAP PLAN TEXT` tells in words on standard error why a map file and a plan file do not go together, where the
+# first line of a program's text says so. The status is 1 then, else 2.
+tell_files() {
+    told=$4
+    case $told in
+        "map refused "*) tell_refusal "$1" map "$2" "$told" ;;
+        "plan refused "*) tell_refusal "$1" plan "$3" "$told" ;;
+        "sizes "* | "no plan "*)
+            script=$1 map=$2 plan=$3
+            # the words of the line
+            set -- $told
+            case $told in
+                "sizes "*) echo "bin/$script: '$plan' is a plan file for $4 x $5 processors, but '$map' is a map of $2 x $3" >&2 ;;
+                *) echo "bin/$script: '$plan' is no plan for '$map': $(meaning "$3" "$4" "$5") (refusal $3)" >&2 ;;
+            esac
+            ;;
+        *)
+            echo "bin/$1: the program failed on $2 and $3" >&2
+            return 2
+            ;;
+    esac
+    case $told in "plan refused 8 "*) echo "bin/$1: a plan file ends with the number of trials, after its last path" >&2 ;; esac
+    return 1
 }

@@ -1,4 +1,6 @@
-// The words of a line, and the numbers that they spell.
+// The lines of a text, the words of a line, and the numbers that they spell, for programs that read text.
+ghost use Prim.Native.Nat.{_≤_};
+ghost use lib.ListN.{length};
 
 // A word starts at `start` and ends before `end`. Where a line has no such word the two are equal.
 pub struct Word {
@@ -10,6 +12,21 @@ pub struct Word {
 pub struct Value {
     pub value: usize,
     pub ok: bool,
+}
+
+// Where the line that starts at an offset ends.
+pub fn line_end(text: &[u8], start: usize) -> usize
+    requires { ⌜ start ≤ length (now text) ⌝ }
+    ensures { λ r. ⌜ (start ≤ r) × (r ≤ length (now (text .entry))) ⌝ }
+{
+    let mut i = start;
+    while i < text.len() {
+        if text[i] == b'\n' {
+            return i;
+        }
+        i += 1;
+    }
+    i
 }
 
 pub fn wide(b: u8) -> usize {
@@ -28,8 +45,13 @@ pub fn put(s: &mut [u8], i: usize, v: u8) {
     }
 }
 
+// Whether a byte stands between words: a space, a tab or a carriage return.
+fn is_space(b: u8) -> bool {
+    (b == b' ') | ((b == b'\t') | (b == b'\r'))
+}
+
 fn stops(b: u8, spaces: bool) -> bool {
-    if spaces { b != b' ' } else { b == b' ' }
+    is_space(b) != spaces
 }
 
 // Where the spaces, or the bytes that are none, end that start at an offset.

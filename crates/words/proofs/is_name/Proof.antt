@@ -1,10 +1,10 @@
--- `cases::words::is_name` is safe and ends.
+-- `words::is_name` is safe and ends.
 -- Assumes nothing.
 use Prim.Native.Nat.{_-_}
 use lib.ListN.{length}
 use borrow.Author.Needs.{needs}
-use Rattle.cases.proofs.words.is_name.Statement.{statement}
-use Rattle.cases.proofs.words.is_name.Tie as tie
+use Rattle.words.proofs.is_name.Statement.{statement}
+use Rattle.words.proofs.is_name.Tie as tie
 
 abbrev Inv-loop : tie.InvT-loop
 Inv-loop line name end at₀ i₀ at i = Unit {0}

@@ -1,8 +1,8 @@
--- `cases::words::word_at` is safe and ends.
+-- `words::word_at` is safe and ends.
 -- Assumes nothing.
 use borrow.Author.Needs.{needs}
-use Rattle.cases.proofs.words.word_at.Statement.{statement}
-use Rattle.cases.proofs.words.word_at.Tie as tie
+use Rattle.words.proofs.word_at.Statement.{statement}
+use Rattle.words.proofs.word_at.Tie as tie
 
 abbrev Inv-loop : tie.InvT-loop
 Inv-loop line k w₀ left₀ w left = Unit {0}

@@ -1,9 +1,9 @@
--- `cases::words::number_of` is safe and ends.
+-- `words::number_of` is safe and ends.
 -- Assumes nothing.
 use Prim.Native.Nat.{_-_}
 use borrow.Author.Needs.{needs}
-use Rattle.cases.proofs.words.number_of.Statement.{statement}
-use Rattle.cases.proofs.words.number_of.Tie as tie
+use Rattle.words.proofs.number_of.Statement.{statement}
+use Rattle.words.proofs.number_of.Tie as tie
 
 abbrev Inv-loop : tie.InvT-loop
 Inv-loop line end at₀ v₀ at v = Unit {0}

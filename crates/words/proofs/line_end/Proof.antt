@@ -1,25 +1,22 @@
--- `cases::words::run_end` is safe and ends.
+-- `words::line_end` meets its contract: the offset lies between the start and the end of the text.
 -- Assumes nothing.
-use Prim.Native.Nat.{_-_}
+use Prim.Native.Nat.{_≤_, _-_}
 use lib.ListN.{length}
 use borrow.Author.Needs.{needs}
-use Rattle.cases.proofs.words.run_end.Statement.{statement}
-use Rattle.cases.proofs.words.run_end.Tie as tie
+use Rattle.words.proofs.line_end.Statement.{statement}
+use Rattle.words.proofs.line_end.Tie as tie
 
 abbrev Inv-loop : tie.InvT-loop
-Inv-loop line from spaces i₀ i = Unit {0}
+Inv-loop text start i₀ i = (start ≤ i) × (i ≤ length text)
 
 abbrev μ-loop : tie.MeasureT-loop
-μ-loop line from spaces i₀ i = length line - i
+μ-loop text start i₀ i = length text - i
 
 loop-holds : tie.Need-loop-holds Inv-loop μ-loop
 loop-holds c = search needs
 
-shared-slice-read-stops : tie.Need-shared-slice-read-stops Inv-loop μ-loop
-shared-slice-read-stops c = search needs
-
-stops-requires : tie.Need-stops-requires Inv-loop μ-loop
-stops-requires c κs = search needs
+shared-slice-read-if1 : tie.Need-shared-slice-read-if1 Inv-loop μ-loop
+shared-slice-read-if1 c = search needs
 
 returns : tie.Need-returns Inv-loop μ-loop
 returns c = search needs
@@ -36,15 +33,14 @@ loop-again c = search needs
 returns-2 : tie.Need-returns-2 Inv-loop μ-loop
 returns-2 c = search needs
 
-pub run-end-spec : {M : Type 1} → statement M
-run-end-spec =
+pub line-end-spec : {M : Type 1} → statement M
+line-end-spec =
     tie.close
     (tie.spec
     Inv-loop
     μ-loop
     loop-holds
-    shared-slice-read-stops
-    stops-requires
+    shared-slice-read-if1
     returns
     add-i
     loop-less

@@ -1,22 +1,25 @@
--- `cases::line_end` meets its contract: the offset lies between the start and the end of the text.
+-- `words::run_end` is safe and ends.
 -- Assumes nothing.
-use Prim.Native.Nat.{_≤_, _-_}
+use Prim.Native.Nat.{_-_}
 use lib.ListN.{length}
 use borrow.Author.Needs.{needs}
-use Rattle.cases.proofs.line_end.Statement.{statement}
-use Rattle.cases.proofs.line_end.Tie as tie
+use Rattle.words.proofs.run_end.Statement.{statement}
+use Rattle.words.proofs.run_end.Tie as tie
 
 abbrev Inv-loop : tie.InvT-loop
-Inv-loop text start i₀ i = (start ≤ i) × (i ≤ length text)
+Inv-loop line from spaces i₀ i = Unit {0}
 
 abbrev μ-loop : tie.MeasureT-loop
-μ-loop text start i₀ i = length text - i
+μ-loop line from spaces i₀ i = length line - i
 
 loop-holds : tie.Need-loop-holds Inv-loop μ-loop
 loop-holds c = search needs
 
-shared-slice-read-if1 : tie.Need-shared-slice-read-if1 Inv-loop μ-loop
-shared-slice-read-if1 c = search needs
+shared-slice-read-stops : tie.Need-shared-slice-read-stops Inv-loop μ-loop
+shared-slice-read-stops c = search needs
+
+stops-requires : tie.Need-stops-requires Inv-loop μ-loop
+stops-requires c κs = search needs
 
 returns : tie.Need-returns Inv-loop μ-loop
 returns c = search needs
@@ -33,14 +36,15 @@ loop-again c = search needs
 returns-2 : tie.Need-returns-2 Inv-loop μ-loop
 returns-2 c = search needs
 
-pub line-end-spec : {M : Type 1} → statement M
-line-end-spec =
+pub run-end-spec : {M : Type 1} → statement M
+run-end-spec =
     tie.close
     (tie.spec
     Inv-loop
     μ-loop
     loop-holds
-    shared-slice-read-if1
+    shared-slice-read-stops
+    stops-requires
     returns
     add-i
     loop-less
