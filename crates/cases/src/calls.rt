@@ -2,7 +2,6 @@
 use crate::settings::Setup;
 use crate::show;
 use crate::show::Shown;
-use crate::words;
 use array::Refusal;
 use array::Verdict;
 use exact::Decision;

@@ -2,7 +2,6 @@
 use crate::calls;
 use crate::settings::Setup;
 use crate::show;
-use crate::words;
 use plans::Fault;
 ghost use Prim.Native.Nat.{_≤_};
 

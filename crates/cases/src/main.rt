@@ -1,16 +1,21 @@
 // Reads lines from standard input that set up wafers and files or call an operation, and prints each, a call with its answer.
 mod calls;
 mod faults;
+mod reports;
 mod settings;
 mod show;
-mod words;
 
 use crate::settings::Setup;
-use crate::words::Value;
 use libc::STDIN_FILENO;
 use repair::Planner;
-ghost use Prim.Native.Nat.{_≤_};
-ghost use lib.ListN.{length};
+use sessions::Session;
+use words::Value;
+
+// What later lines work on beside the buffers.
+struct Next {
+    setup: Setup,
+    held: Session,
+}
 
 // The lines that set something up.
 enum Setting {
@@ -372,7 +377,7 @@ fn is_remark(line: &[u8]) -> bool {
     (line.len() == 0) | (words::get(line, 0) == b'#')
 }
 
-// Prints a line with what it answers.
+// Prints a line that is none of a session, with what it answers.
 fn answer(
     line: &[u8],
     s: Setup,
@@ -382,6 +387,9 @@ fn answer(
     down: &mut [u8],
     file: &mut [u8],
 ) -> Setup {
+    if reports::is_line(line) {
+        return s;
+    }
     show::say(line);
     if is_remark(line) {
         show::say(b"\n");
@@ -392,19 +400,23 @@ fn answer(
     next
 }
 
-// Where the line that starts at an offset ends.
-fn line_end(text: &[u8], start: usize) -> usize
-    requires { ⌜ start ≤ length (now text) ⌝ }
-    ensures { λ r. ⌜ (start ≤ r) × (r ≤ length (now (text .entry))) ⌝ }
-{
-    let mut i = start;
-    while i < text.len() {
-        if text[i] == b'\n' {
-            return i;
-        }
-        i += 1;
+// Any line, for which one of the two does something.
+fn answer_line(
+    line: &[u8],
+    s: Setup,
+    held: Session,
+    grid: &mut [u8],
+    directions: &mut [u8],
+    across: &mut [u8],
+    down: &mut [u8],
+    file: &mut [u8],
+) -> Next {
+    let session = reports::answer(line, s, held, grid, directions);
+    let setup = answer(line, s, grid, directions, across, down, file);
+    Next {
+        setup: setup,
+        held: session,
     }
-    i
 }
 
 fn answer_all(
@@ -428,10 +440,24 @@ fn answer_all(
         down: 0,
         file: 0,
     };
+    let mut held = reports::no_session();
     let mut at = 0;
     while at < text.len() {
-        let end = line_end(text, at);
-        s = answer(&text[at..end], s, grid, directions, across, down, file);
+        let end = words::line_end(text, at);
+        let next = answer_line(
+            &text[at..end],
+            s,
+            held,
+            grid,
+            directions,
+            across,
+            down,
+            file,
+        );
+        let setup = next.setup;
+        let session = next.held;
+        s = setup;
+        held = session;
         at = end + 1;
     }
 }

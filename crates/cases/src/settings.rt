@@ -1,7 +1,6 @@
 // The lines that set up a wafer, lengths or a file for the calls after them.
 use crate::show;
-use crate::words;
-use crate::words::Value;
+use words::Value;
 
 // N and M, with how many elements each buffer is lent, and the length of the file.
 pub struct Setup {

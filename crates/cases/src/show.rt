@@ -1,5 +1,4 @@
 // What a call answers, as text on standard output.
-use crate::words;
 use array::Refusal;
 use array::Verdict;
 use libc::STDOUT_FILENO;
@@ -26,7 +25,7 @@ fn say_byte(b: u8) {
     io::write_all(STDOUT_FILENO, &text);
 }
 
-fn say_digits(v: usize) {
+pub fn say_digits(v: usize) {
     io::print_decimal(STDOUT_FILENO, v as u64);
 }
 

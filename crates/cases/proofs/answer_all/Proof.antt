@@ -8,15 +8,19 @@ use Rattle.cases.proofs.answer_all.Statement.{statement}
 use Rattle.cases.proofs.answer_all.Tie as tie
 
 abbrev Inv-loop : tie.InvT-loop
-Inv-loop text grid₀ directions₀ across₀ down₀ file₀ s₀ at₀ grid directions across down file s at =
+Inv-loop text grid₀ directions₀ across₀ down₀ file₀ s₀ held₀ at₀ grid directions across down file s held at =
     (length text ≤ 131072) × (length grid ≡ length grid₀) × (length directions ≡ length directions₀)
     × (length across ≡ length across₀) × (length down ≡ length down₀) × (length file ≡ length file₀)
 
 abbrev μ-loop : tie.MeasureT-loop
-μ-loop text grid₀ directions₀ across₀ down₀ file₀ s₀ at₀ grid directions across down file s at = length text - at
+μ-loop text grid₀ directions₀ across₀ down₀ file₀ s₀ held₀ at₀ grid directions across down file s held at =
+    length text - at
 
 returns : tie.Need-returns Inv-loop μ-loop
 returns c = search needs
+
+no-session-requires : tie.Need-no-session-requires Inv-loop μ-loop
+no-session-requires c κs = search needs
 
 loop-holds : tie.Need-loop-holds Inv-loop μ-loop
 loop-holds c = search needs
@@ -24,17 +28,17 @@ loop-holds c = search needs
 line-end-requires : tie.Need-line-end-requires Inv-loop μ-loop
 line-end-requires c κs = search needs
 
-sub-answer : tie.Need-sub-answer Inv-loop μ-loop
-sub-answer c = search needs
+sub-answer-line : tie.Need-sub-answer-line Inv-loop μ-loop
+sub-answer-line c = search needs
 
-part-answer-start : tie.Need-part-answer-start Inv-loop μ-loop
-part-answer-start c = search needs
+part-answer-line-start : tie.Need-part-answer-line-start Inv-loop μ-loop
+part-answer-line-start c = search needs
 
-part-answer-end : tie.Need-part-answer-end Inv-loop μ-loop
-part-answer-end c = search needs
+part-answer-line-end : tie.Need-part-answer-line-end Inv-loop μ-loop
+part-answer-line-end c = search needs
 
-answer-requires : tie.Need-answer-requires Inv-loop μ-loop
-answer-requires c κs = search needs
+answer-line-requires : tie.Need-answer-line-requires Inv-loop μ-loop
+answer-line-requires c κs = search needs
 
 add-at : tie.Need-add-at Inv-loop μ-loop
 add-at c = search needs
@@ -70,12 +74,13 @@ answer-all-spec =
     Inv-loop
     μ-loop
     returns
+    no-session-requires
     loop-holds
     line-end-requires
-    sub-answer
-    part-answer-start
-    part-answer-end
-    answer-requires
+    sub-answer-line
+    part-answer-line-start
+    part-answer-line-end
+    answer-line-requires
     add-at
     loop-less
     loop-again
