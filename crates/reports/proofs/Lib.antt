@@ -3,7 +3,10 @@ pub mod Opens
 pub mod Changed
 pub mod Counted
 pub mod Reports
+pub mod Previews
 pub mod Sound
 pub mod Readings
+pub mod Computing
 pub mod Examples
 pub mod Serving
+pub mod PreviewExamples
