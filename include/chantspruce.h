@@ -24,6 +24,8 @@
  * From the plan a controller can start a session and report to it, as processors fail and recover:
  *
  *     chantspruce_started field = chantspruce_start_session(map.rows, map.columns, grid, B, directions, B);
+ *     chantspruce_preview seen = chantspruce_preview_processor(&field.session, true, CHANTSPRUCE_POSITION(2, 5));
+ *     if (seen.number == CHANTSPRUCE_ACCEPTED) { ... seen.direction is the path that the processor would get ... }
  *     chantspruce_verdict told = chantspruce_report_processor(&field.session, true, CHANTSPRUCE_POSITION(2, 5));
  *     if (told.number == CHANTSPRUCE_ACCEPTED) { ... field.session.directions is a plan with that fault ... }
  *
@@ -86,11 +88,13 @@
  * plan that start at other processors share a processor with a path from there in that direction or are a near-miss with it. The caller holds
  * the session and hands it to each report, which alters it in place. Where chantspruce_start_session accepts a plan the session begins: from
  * then on, after any reports, refused ones among them, its directions are a plan for its grid, and every counter equals its count made afresh.
- * Where it refuses, the session is all 0, and every report to it is refused with 1.
+ * Where it refuses, the session is all 0, and every report to it is refused with 1, and so is every preview.
  *
- * A session is the caller's memory like any buffer: it may be copied and kept. Where it is changed by hand, the next report tests N, M, the grid
- * and the directions. Counters are taken as they stand: a report adds 1 to them or takes 1 away, and they stop at 255 and at 0. With wrong
- * counters a report may take a path that is not clear of another; the next one then refuses the session with 6 or 7.
+ * A preview tells what a report would do and alters nothing: the session is only read, and may lie in memory that cannot be written to.
+ *
+ * A session is the caller's memory like any buffer: it may be copied and kept. Where it is changed by hand, the next report or preview tests N, M,
+ * the grid and the directions. Counters are taken as they stand: a report adds 1 to them or takes 1 away, and they stop at 255 and at 0. With
+ * wrong counters a report may take a path that is not clear of another; the next one then refuses the session with 6 or 7.
  *
  *
  * FILES
@@ -118,14 +122,16 @@
  * wrong one is refused, but for the counters of a session. Beyond that, as for all C functions:
  *  - A pointer is valid for as many elements as the length after it says, and is aligned for its type. A length is in elements, not in bytes.
  *    A null pointer is never allowed. Where the length is 0 nothing is read or written, and any other pointer will do. A pointer to a session
- *    has no length after it, is valid for one session, and can be written to, also where the report is refused. A bool is true or false.
+ *    has no length after it and is valid for one session. That of a report can be written to, also where the report is refused; that of a
+ *    preview need not be. A bool is true or false.
  *  - A buffer that a call writes to (a parameter that is no pointer to const) overlaps no other buffer of the same call. Two buffers
  *    that are only read may be the same.
  *  - While a call runs, nothing else writes to its buffers or its session, and nothing else reads those that it writes to.
  *  - CHANTSPRUCE_STACK bytes of stack are free. (This is measured and not proved: each of the three listings takes less
- *    than 52 KiB, the start of a session less than 24 KiB, any other function less than 16 KiB.)
+ *    than 52 KiB, a preview less than 40 KiB, the start of a session and a report less than 24 KiB each, any other function
+ *    less than 16 KiB.)
  *    Nothing is allocated and nothing is kept between calls, so that calls on different buffers and sessions may run at
- *    the same time.
+ *    the same time, and so may calls that only read the same ones, such as previews of one session.
  * Where one of these is not met the behaviour is undefined, and nothing is promised of the result.
  */
 #ifndef CHANTSPRUCE_H
@@ -246,7 +252,7 @@ enum {
     CHANTSPRUCE_WRONG_FILE_DIRECTION = 13,
     /* The room for what is to be written is too short. Place: the length that is needed. */
     CHANTSPRUCE_NO_ROOM = 14,
-    /* There is no such cell, or the side is neither 0 nor 1. In chantspruce_report_processor: there is no processor at the position. */
+    /* There is no such cell, or the side is neither 0 nor 1. In a report or a preview: there is no processor at the position. */
     CHANTSPRUCE_NO_CELL = 15,
     /* A switch buffer has a byte that cannot stand there: not a to d at a switch, or not 0 elsewhere. Place: the lowest such position in
        either buffer. */
@@ -309,6 +315,19 @@ typedef struct chantspruce_started {
     size_t second;
     chantspruce_session session; /* all 0 where the call is refused */
 } chantspruce_started;
+
+/* Of the preview of a report. */
+typedef struct chantspruce_preview {
+    uint32_t number;
+    size_t place;
+    size_t second;
+    uint32_t direction; /* that the processor would have: CHANTSPRUCE_SOUTH, _NORTH, _EAST or _WEST; 0 for a spare and for a recovery */
+    /* all counters as they would be, as in a session; all 0 where the call is refused */
+    uint8_t south[CHANTSPRUCE_BUFFER];
+    uint8_t north[CHANTSPRUCE_BUFFER];
+    uint8_t east[CHANTSPRUCE_BUFFER];
+    uint8_t west[CHANTSPRUCE_BUFFER];
+} chantspruce_preview;
 
 /* Of the planners and of the runs. */
 typedef struct chantspruce_plan {
@@ -498,6 +517,14 @@ chantspruce_started chantspruce_start_session(size_t rows, size_t columns,
  * Refuses 1 to 7 of the session, in this order, 6 and 7 pair by pair, then 15, 22, 23, 24, in this order. */
 chantspruce_verdict chantspruce_report_processor(chantspruce_session *session, bool failing, size_t position);
 
+/* Previews that report: gives what chantspruce_report_processor would answer and leave, and alters nothing. An accepted preview has the direction
+ * that the processor would have, which is 0 for a spare and for a recovery, and all counters as they would be, those that would stay as they
+ * are among them; in a refused one the direction and all counters are 0. The same report made next, of a session that was not changed in between,
+ * has the same number, place and second; where it is accepted the session then has this direction at the position and these counters.
+ * The session is only read: it may lie in memory that cannot be written to, and others may read it during the call.
+ * Refuses what the report refuses: 1 to 7 of the session, in this order, 6 and 7 pair by pair, then 15, 22, 23, 24, in this order. */
+chantspruce_preview chantspruce_preview_processor(const chantspruce_session *session, bool failing, size_t position);
+
 /* FILES */
 
 /* Reads the number at the offset `at` of a file.
@@ -561,6 +588,7 @@ chantspruce_length chantspruce_report_exactly(const uint8_t *file, size_t file_l
 typedef char chantspruce_size_t_has_64_bits[sizeof(size_t) == 8 ? 1 : -1];
 typedef char chantspruce_fault_has_16_bytes[sizeof(chantspruce_fault) == 16 ? 1 : -1];
 typedef char chantspruce_session_has_6160_bytes[sizeof(chantspruce_session) == 6160 ? 1 : -1];
+typedef char chantspruce_preview_has_4128_bytes[sizeof(chantspruce_preview) == 4128 ? 1 : -1];
 
 #ifdef __cplusplus
 }

@@ -12,7 +12,7 @@
 //!
 //! Every buffer except file bytes, listings and lists of faults has [`BUFFER`] elements, indexed by position: 32 times the row, plus the column.
 //! An accepted call returns `Ok` and fills the buffers lent to it. A refused one returns a [`Refusal`] and leaves them as they were. No function panics.
-//! A [`Session`] keeps a plan up to date while processors fail and recover, one report at a time.
+//! A [`Session`] keeps a plan up to date while processors fail and recover, one report at a time, and tells beforehand what a report would do.
 //!
 //! ```
 //! use chantspruce::{BUFFER, Outcome, Refusal, direction, plan_repair, read_map};
@@ -296,7 +296,8 @@ pub struct Fault {
 /// that start at other processors meet or nearly miss a path from there. After any reports to a session that [`Session::start`] gave, its
 /// directions are a plan for its grid and its counters are right.
 ///
-/// The fields may hold anything: each report tests size, grid and directions first. Counters are taken as they stand; they stop at 0 and 255.
+/// The fields may hold anything: each report and each preview tests size, grid and directions first. Counters are taken as they stand; they stop at
+/// 0 and 255.
 #[repr(C)]
 #[derive(Clone, Debug, PartialEq, Eq)]
 pub struct Session {
@@ -309,6 +310,21 @@ pub struct Session {
     /// The plan, see [`direction`].
     pub directions: [u8; BUFFER],
     /// The counters of paths south.
+    pub south: [u8; BUFFER],
+    /// The counters of paths north.
+    pub north: [u8; BUFFER],
+    /// The counters of paths east.
+    pub east: [u8; BUFFER],
+    /// The counters of paths west.
+    pub west: [u8; BUFFER],
+}
+
+/// What a report to a session would leave.
+#[derive(Clone, Debug, PartialEq, Eq)]
+pub struct Preview {
+    /// The direction that the processor would have, see [`direction`]; 0 for a spare and for a recovery.
+    pub direction: u8,
+    /// The counters of paths south, as they would be.
     pub south: [u8; BUFFER],
     /// The counters of paths north.
     pub north: [u8; BUFFER],
@@ -334,6 +350,18 @@ impl Session {
     /// 23; then the session is as it was.
     pub fn recover(&mut self, position: usize) -> Result<(), Refusal> {
         flat::report_processor(self, false, position).answer()
+    }
+
+    /// What [`Session::fail`] would do: the direction that the processor at `position` would get, and all counters as they would be. The session
+    /// stays as it is, and a failure that is reported next leaves exactly this. Refusals: those of the report, with the same places.
+    pub fn preview_failure(&self, position: usize) -> Result<Preview, Refusal> {
+        flat::preview_processor(self, true, position).answer()
+    }
+
+    /// What [`Session::recover`] would do: all counters as they would be; the direction is 0. The session stays as it is, and a recovery that is
+    /// reported next leaves exactly this. Refusals: those of the report, with the same places.
+    pub fn preview_recovery(&self, position: usize) -> Result<Preview, Refusal> {
+        flat::preview_processor(self, false, position).answer()
     }
 }
 
@@ -485,7 +513,7 @@ pub fn report_exactly(file: &[u8], out: &mut [u8]) -> Result<usize, Refusal> {
 /// for an accepted call and else the number of the refusal; the fields after `second` are 0 for a refused one.
 #[allow(clippy::too_many_arguments)]
 pub mod flat {
-    use super::{Decision, Fault, Head, Link, Number, Outcome, PlanHead, Port, Reason, Refusal, Run, Session};
+    use super::{BUFFER, Decision, Fault, Head, Link, Number, Outcome, PlanHead, Port, Preview, Reason, Refusal, Run, Session};
 
     /// Of the plan checks, placement, routing and reports to a session.
     #[repr(C)]
@@ -542,6 +570,20 @@ pub mod flat {
         pub session: Session,
     }
 
+    /// Of the preview of a report: all counters as they would be, and the direction that the processor would have; all 0 where it is refused.
+    #[repr(C)]
+    #[derive(Clone, Debug, PartialEq, Eq)]
+    pub struct Previewed {
+        pub number: u32,
+        pub place: usize,
+        pub second: usize,
+        pub direction: u32,
+        pub south: [u8; BUFFER],
+        pub north: [u8; BUFFER],
+        pub east: [u8; BUFFER],
+        pub west: [u8; BUFFER],
+    }
+
     /// Of the map reader.
     #[repr(C)]
     #[derive(Clone, Copy, Debug, PartialEq, Eq)]
@@ -595,6 +637,15 @@ pub mod flat {
     impl Started {
         pub fn answer(self) -> Result<Session, Refusal> {
             answer(self.number, self.place, self.second, Some(self.session))
+        }
+    }
+
+    impl Previewed {
+        pub fn answer(self) -> Result<Preview, Refusal> {
+            let Previewed { south, north, east, west, .. } = self;
+            let direction = u8::try_from(self.direction).ok();
+            let preview = direction.map(|direction| Preview { direction, south, north, east, west });
+            answer(self.number, self.place, self.second, preview)
         }
     }
 
@@ -797,6 +848,7 @@ pub mod flat {
         fn chantspruce_start_session(n: usize, m: usize, grid: Bytes, grid_len: usize, directions: Bytes, directions_len: usize)
         -> Started;
         fn chantspruce_report_processor(session: *mut Session, failing: bool, position: usize) -> Verdict;
+        fn chantspruce_preview_processor(session: *const Session, failing: bool, position: usize) -> Previewed;
         fn chantspruce_read_number(file: Bytes, file_len: usize, at: usize) -> NumberRead;
         fn chantspruce_read_map(file: Bytes, file_len: usize, grid: BytesMut, grid_len: usize) -> MapRead;
         fn chantspruce_read_plan(file: Bytes, file_len: usize, directions: BytesMut, directions_len: usize) -> PlanRead;
@@ -815,8 +867,9 @@ pub mod flat {
         fn chantspruce_report_exactly(file: Bytes, file_len: usize, out: BytesMut, out_len: usize) -> Written;
     }
 
-    // SAFETY, of each call below: the library reads and writes within the lengths that it is given, or within the session, and keeps no pointer;
-    // a slice is valid for its length, and a slice or session lent by `&mut` overlaps no other. All bytes of a session may have any value.
+    // SAFETY, of each call below: the library reads and writes within the lengths that it is given, or within the session, keeps no pointer, and
+    // only reads what is lent by `&`; a slice is valid for its length, and a slice or session lent by `&mut` overlaps no other. All bytes of a
+    // session may have any value.
 
     pub fn check_plan(n: usize, m: usize, grid: &[u8], directions: &[u8]) -> Verdict {
         let (g, d) = (grid, directions);
@@ -966,6 +1019,10 @@ pub mod flat {
 
     pub fn report_processor(session: &mut Session, failing: bool, position: usize) -> Verdict {
         unsafe { chantspruce_report_processor(session, failing, position) }
+    }
+
+    pub fn preview_processor(session: &Session, failing: bool, position: usize) -> Previewed {
+        unsafe { chantspruce_preview_processor(session, failing, position) }
     }
 
     pub fn read_number(file: &[u8], at: usize) -> NumberRead {

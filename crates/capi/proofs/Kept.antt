@@ -11,10 +11,8 @@ use Rattle.repair.specs.declared.Answer.{Answer}
 use Rattle.repair.proofs.Answers.{answers-kept}
 use Rattle.runs.specs.Run.{Ran-as, run-answer, run-links}
 use Rattle.runs.specs.declared.Ran.{Ran}
-use Rattle.sessions.specs.declared.Session.{Session}
-use Rattle.capi.specs.Flat.{flat-verdict, flat-started, flat-run, run-of, Ran-flat}
+use Rattle.capi.specs.Flat.{flat-verdict, flat-run, run-of, Ran-flat}
 use Rattle.capi.specs.declared.ChantspruceVerdict.{ChantspruceVerdict}
-use Rattle.capi.specs.declared.ChantspruceStarted.{ChantspruceStarted}
 use Rattle.capi.specs.declared.ChantsprucePlan.{ChantsprucePlan}
 
 pub flat-kept :
@@ -33,15 +31,7 @@ module _ (g : Given) (r : Ran) {directions places across down : List ℕ} (h : R
   pub flat-ran : {f : ChantsprucePlan} → f ≡ flat-run r → Ran-flat g f directions places across down
   flat-ran e = (e ∙ ap flat-run run-kept, subst (λ (x : Ran). Ran-as g x directions places across down) run-kept h)
 
--- The same of the start of a session, whose result is an answer and a session.
-same-started : (a b : ChantspruceVerdict) (s t : Session) → a ≡ b → s ≡ t
-    → _≡_ {A = ChantspruceStarted} (record { number = a .number; place = a .place; second = a .second; session = s })
-    (record { number = b .number; place = b .place; second = b .second; session = t })
-same-started a b s t e h = rw (e, h)
-
-pub started-kept : (v w : Verdict) {s t : Session} (f : ChantspruceVerdict)
-    → f ≡ flat-verdict v → told v ≡ told w → s ≡ t
-    → _≡_ {A = ChantspruceStarted} (record { number = f .number; place = f .place; second = f .second; session = s })
-    (flat-started w t)
-started-kept v w {s} {t} f e h k =
-    same-started f (flat-verdict w) s t (flat-kept told verdict-kept flat-verdict e h) k
+-- The same with a value beside the answer, of a struct that `beside` makes of the two.
+pub beside-kept : {A B : Type 0} (beside : ChantspruceVerdict → A → B) (v w : Verdict) {x y : A} {f : ChantspruceVerdict}
+    → f ≡ flat-verdict v → told v ≡ told w → x ≡ y → beside f x ≡ beside (flat-verdict w) y
+beside-kept beside v w e h k = λ i. beside (flat-kept told verdict-kept flat-verdict {x = v} {y = w} e h i) (k i)

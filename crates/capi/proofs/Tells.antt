@@ -39,10 +39,12 @@ use Rattle.writers.proofs.Numbered.{write-numbered, text-numbered}
 use Rattle.listing.specs.Listing.{listing}
 use Rattle.sessions.specs.declared.Session.{Session}
 use Rattle.sessions.proofs.Numbered.{report-numbered}
-use Rattle.capi.specs.Flat.{flat-verdict, flat-started, flat-outcome, flat-decision, flat-answer, run-of, flat-run, flat-link}
+use Rattle.previews.specs.declared.Foretold.{Foretold}
+use Rattle.capi.specs.Flat.{flat-verdict, flat-started, flat-preview, flat-outcome, flat-decision}
+use Rattle.capi.specs.Flat.{flat-answer, run-of, flat-run, flat-link}
 use Rattle.capi.specs.Flat.{flat-number, flat-head, flat-plan-head, flat-length}
 use Rattle.capi.specs.Tells.{by-number, verdict-tells, link-tells, number-tells, head-tells, plan-head-tells, length-tells}
-use Rattle.capi.specs.Tells.{plan-tells, started-tells, Kept, Answer-kept, Nothing-lost}
+use Rattle.capi.specs.Tells.{plan-tells, started-tells, preview-tells, Kept, Answer-kept, Nothing-lost}
 use Rattle.array.specs.Tests as tests
 use Rattle.array.specs.declared.Verdict.the-variants as verdict
 use Rattle.track.specs.Follower as links
@@ -74,6 +76,11 @@ verdict-kept (verdict.Refused r) h = record { numbered = h; same = refused r [] 
 started-kept : (v : Verdict) (s : Session) → Numbered (tests.told v)
     → Kept tests.told (λ (x : Verdict). flat-started x s) started-tells v
 started-kept v s h = record { numbered = h; same = verdict-kept v h .same }
+
+-- beside whatever is foretold
+preview-kept : (v : Verdict) (f : Foretold) → Numbered (tests.told v)
+    → Kept tests.told (λ (x : Verdict). flat-preview x f) preview-tells v
+preview-kept v f h = record { numbered = h; same = verdict-kept v h .same }
 
 -- the values that a caller reads, of a planner's own kind of answer
 outcome-same : (o : Outcome) (k : ℕ) → plan-tells Trials (flat-outcome o k) ≡ operations.outcome-told o
@@ -206,4 +213,5 @@ nothing-lost =
       by-report = λ pl s out. length-kept _ (text-numbered (listing pl s) out .numbered);
       by-start-session = λ n m grid directions. started-kept _ _ (plan-numbered n m _ grid directions .numbered);
       by-report-processor = λ s failing position. verdict-kept _ (report-numbered s failing position .numbered);
+      by-preview-processor = λ s failing position. preview-kept _ _ (report-numbered s failing position .numbered);
     }

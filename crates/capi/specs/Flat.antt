@@ -18,8 +18,10 @@ use Rattle.readers.specs.declared.FileRead.{FileRead}
 use Rattle.readers.specs.declared.MapRead.{MapRead}
 use Rattle.writers.specs.declared.FileWritten.{FileWritten}
 use Rattle.sessions.specs.declared.Session.{Session}
+use Rattle.previews.specs.declared.Foretold.{Foretold}
 use Rattle.capi.specs.declared.ChantspruceVerdict.{ChantspruceVerdict}
 use Rattle.capi.specs.declared.ChantspruceStarted.{ChantspruceStarted}
+use Rattle.capi.specs.declared.ChantsprucePreview.{ChantsprucePreview}
 use Rattle.capi.specs.declared.ChantsprucePlan.{ChantsprucePlan}
 use Rattle.capi.specs.declared.ChantspruceLink.{ChantspruceLink}
 use Rattle.capi.specs.declared.ChantspruceNumber.{ChantspruceNumber}
@@ -39,14 +41,28 @@ flat-verdict verdict.Accepted = record { number = 0; place = 0; second = 0 }
 flat-verdict (verdict.Refused r) = record { number = r .number; place = r .place; second = r .second }
 
 -- T-07. An answer with a session beside it.
+abbrev pub with-session : ChantspruceVerdict → Session → ChantspruceStarted
+with-session a s = record { number = a .number; place = a .place; second = a .second; session = s }
+
 abbrev pub flat-started : Verdict → Session → ChantspruceStarted
-flat-started v s =
+flat-started v s = with-session (flat-verdict v) s
+
+-- T-08. An answer with what is foretold beside it.
+abbrev pub with-foretold : ChantspruceVerdict → Foretold → ChantsprucePreview
+with-foretold a f =
     record {
-      number = flat-verdict v .number;
-      place = flat-verdict v .place;
-      second = flat-verdict v .second;
-      session = s;
+      number = a .number;
+      place = a .place;
+      second = a .second;
+      direction = f .direction;
+      south = f .south;
+      north = f .north;
+      east = f .east;
+      west = f .west;
     }
+
+abbrev pub flat-preview : Verdict → Foretold → ChantsprucePreview
+flat-preview v f = with-foretold (flat-verdict v) f
 
 -- an outcome by its kind and the count that it carries
 abbrev pub planned-as : ℕ → ℕ → ℕ → ChantsprucePlan

@@ -23,10 +23,12 @@ use Rattle.writers.specs.Writing.{write-map, write-plan}
 use Rattle.listing.specs.Listing.{reported}
 use Rattle.sessions.specs.Session.{session-started, report-test}
 use Rattle.sessions.specs.declared.Session.{Session}
-use Rattle.capi.specs.Flat.{flat-verdict, flat-started, flat-answer, run-of, flat-run, flat-link}
+use Rattle.previews.specs.Preview.{foretold}
+use Rattle.capi.specs.Flat.{flat-verdict, flat-started, flat-preview, flat-answer, run-of, flat-run, flat-link}
 use Rattle.capi.specs.Flat.{flat-number, flat-head, flat-plan-head, flat-length}
 use Rattle.capi.specs.declared.ChantspruceVerdict.{ChantspruceVerdict}
 use Rattle.capi.specs.declared.ChantspruceStarted.{ChantspruceStarted}
+use Rattle.capi.specs.declared.ChantsprucePreview.{ChantsprucePreview}
 use Rattle.capi.specs.declared.ChantsprucePlan.{ChantsprucePlan}
 use Rattle.capi.specs.declared.ChantspruceLink.{ChantspruceLink}
 use Rattle.capi.specs.declared.ChantspruceNumber.{ChantspruceNumber}
@@ -52,6 +54,10 @@ verdict-tells r = by-number (r .number) (r .place) (r .second) []
 -- the session beside it is the struct's own field
 abbrev pub started-tells : ChantspruceStarted → Told
 started-tells r = by-number (r .number) (r .place) (r .second) []
+
+-- what is foretold stands in the struct's own fields
+abbrev pub preview-tells : ChantsprucePreview → Told
+preview-tells r = by-number (r .number) (r .place) (r .second) []
 
 -- outcomes count from 1 in the struct and from 0 in what an answer tells; from the exact planner a caller reads no count
 abbrev pub values-by : Planner → ChantsprucePlan → List ℕ
@@ -112,3 +118,6 @@ pub record Nothing-lost : Type 0 where
       (check-plan n m grid directions)
   pub by-report-processor : (s : Session) (failing : Bool) (position : ℕ)
       → Kept tests.told flat-verdict verdict-tells (report-test s failing position)
+  pub by-preview-processor : (s : Session) (failing : Bool) (position : ℕ)
+      → Kept tests.told (λ (v : Verdict). flat-preview v (foretold s failing position)) preview-tells
+      (report-test s failing position)

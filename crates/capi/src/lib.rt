@@ -26,7 +26,9 @@ ghost use Rattle.readers.specs.Reading.{read-map, read-plan};
 ghost use Rattle.writers.specs.Writing.{write-map, write-plan};
 ghost use Rattle.listing.specs.Listing.{reported};
 ghost use Rattle.sessions.specs.Session.{session-started, report-test, session-reported};
-ghost use Rattle.capi.specs.Flat.{flat-verdict, flat-started, planned-as, flat-outcome, flat-decision, flat-answer, Ran-flat, flat-link};
+ghost use Rattle.previews.specs.Preview.{foretold};
+ghost use Rattle.capi.specs.Flat.{flat-verdict, flat-started, flat-preview, planned-as};
+ghost use Rattle.capi.specs.Flat.{flat-outcome, flat-decision, flat-answer, Ran-flat, flat-link};
 ghost use Rattle.capi.specs.Flat.{flat-number, flat-head, flat-plan-head, flat-length};
 
 // Every struct begins with `number` (0 where the call is accepted, else the number of the refusal), `place` and `second`. The values
@@ -47,6 +49,19 @@ pub struct ChantspruceStarted {
     pub place: usize,
     pub second: usize,
     pub session: Session,
+}
+
+// The preview of a report: the direction that the processor would have, and all counters as they would be.
+#[repr(C)]
+pub struct ChantsprucePreview {
+    pub number: u32,
+    pub place: usize,
+    pub second: usize,
+    pub direction: u32,
+    pub south: [u8; 1024],
+    pub north: [u8; 1024],
+    pub east: [u8; 1024],
+    pub west: [u8; 1024],
 }
 
 // The planners and the runs. `outcome` is 1 repaired, 2 beyond repair, 3 spent; `count` the trials, or the limit where it is
@@ -656,4 +671,41 @@ pub extern "C" fn chantspruce_report_processor(
     );
     *s = r.session;
     flat_verdict(r.answer)
+}
+
+// A preview of a session that is handed over by value, flat.
+fn flat_preview(s: Session, failing: bool, position: usize) -> ChantsprucePreview
+    ensures { λ r. ⌜ r ≡ flat-preview (report-test s failing position) (foretold s failing position) ⌝ }
+{
+    let r = previews::preview(s, failing, position);
+    let answer = r.answer;
+    let f = r.foretold;
+    let flat = flat_verdict(answer);
+    let south = f.south;
+    let north = f.north;
+    let east = f.east;
+    let west = f.west;
+    ChantsprucePreview {
+        number: flat.number,
+        place: flat.place,
+        second: flat.second,
+        direction: f.direction as u32,
+        south: south,
+        north: north,
+        east: east,
+        west: west,
+    }
+}
+
+// The session is only read: the report is made on a copy.
+#[no_mangle]
+pub extern "C" fn chantspruce_preview_processor(
+    s: &Session,
+    failing: bool,
+    position: usize,
+) -> ChantsprucePreview
+    ensures { λ r. ⌜ r ≡ flat-preview (report-test (now (s .entry)) failing position)
+        (foretold (now (s .entry)) failing position) ⌝ }
+{
+    flat_preview(*s, failing, position)
 }

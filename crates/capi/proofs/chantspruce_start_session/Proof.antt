@@ -2,7 +2,8 @@
 -- Assumes nothing.
 use denote.Ref.{now}
 use Rattle.plans.specs.Check.{check-plan}
-use Rattle.capi.proofs.Kept.{started-kept}
+use Rattle.capi.specs.Flat.{with-session}
+use Rattle.capi.proofs.Kept.{beside-kept}
 use borrow.Author.Needs.{needs}
 use Rattle.capi.proofs.chantspruce_start_session.Statement.{statement}
 use Rattle.capi.proofs.chantspruce_start_session.Tie as tie
@@ -18,8 +19,8 @@ returns c =
     let q = c .before .before in
     let a = q .before .before .before .args in
     let e = q .start-session .ensures in
-    started-kept (q .start-session .result .answer) (check-plan (a .n) (a .m) (now (a .grid)) (now (a .directions)))
-    (c .flat-verdict .result) (c .flat-verdict .ensures) (e .0) (e .1)
+    beside-kept with-session (q .start-session .result .answer)
+    (check-plan (a .n) (a .m) (now (a .grid)) (now (a .directions))) (c .flat-verdict .ensures) (e .0) (e .1)
 
 pub chantspruce-start-session-spec : {M : Type 1} → statement M
 chantspruce-start-session-spec =
