@@ -1,15 +1,19 @@
-// Tells what a session over the map file on descriptor 3 and the plan file on descriptor 4 answers to the reports on standard
-// input, a line on standard output for each. A line of the input is `fail ROW COLUMN` or `recover ROW COLUMN`; a blank one and
-// one whose first character is # are skipped, and the first other one ends the history. No more than 4,096 bytes are read of
-// either file, of which a longer one is never accepted, and no input of 65,536 bytes or more is taken.
+// Tells what a session over the map file on descriptor 3 and the plan file on descriptor 4 answers to the reports on
+// standard input, a line on standard output for each. A line of the input is `fail ROW COLUMN` or `recover ROW COLUMN`, a
+// report, or `preview ROW COLUMN`, which asks what a failure there would do. A blank line and one whose first character is #
+// are skipped, and the first other one ends the history. No more than 4,096 bytes are read of either file, of which a longer
+// one is never accepted, and no input of 65,536 bytes or more is taken.
 use array::Refusal;
 use array::Verdict;
 use libc::STDIN_FILENO;
 use libc::STDOUT_FILENO;
+use previews::Foretold;
 use readers::FileRead;
 use readers::Head;
 use readers::MapRead;
 use sessions::Session;
+ghost use mathlib.Core.Path.{_≡_};
+ghost use Rattle.history.specs.Held.{held-after};
 
 // The descriptors of the two files.
 const MAP: i32 = 3;
@@ -18,6 +22,13 @@ const PLAN: i32 = 4;
 
 // A position that no array has.
 const NONE: usize = 1024;
+
+// What a line asks: that a processor fails, that one recovers, or what a failure would do.
+enum Asked {
+    Fail,
+    Recover,
+    Preview,
+}
 
 // A session after a line, and whether the line was a wrong one.
 struct Step {
@@ -50,31 +61,47 @@ fn say_refusal(kind: &[u8], r: Refusal) {
     say_two(b" refused", r.number as usize, r.place);
 }
 
-// Tells which report a line is of.
-fn say_report(failing: bool, row: usize, column: usize) {
-    if failing {
-        say(b"fail");
-    } else {
-        say(b"recover");
+// Tells what a line asks.
+fn say_asked(asked: Asked, row: usize, column: usize) {
+    match asked {
+        Asked::Fail => say(b"fail"),
+        Asked::Recover => say(b"recover"),
+        Asked::Preview => say(b"preview"),
     }
     say_field(row);
     say_field(column);
 }
 
-// Tells what an accepted report has changed: the path in this direction that came or went, or, where it is 0, only a spare's mark.
+// Tells what comes or goes: the path in this direction, or, where it is 0, only a spare's mark.
 fn say_change(direction: u8) {
     match direction {
-        1 => say(b" path S\n"),
-        2 => say(b" path N\n"),
-        3 => say(b" path E\n"),
-        4 => say(b" path W\n"),
-        _ => say(b" spare\n"),
+        1 => say(b" path S"),
+        2 => say(b" path N"),
+        3 => say(b" path E"),
+        4 => say(b" path W"),
+        _ => say(b" spare"),
     }
 }
 
+// Tells what a report has changed, or its refusal.
 fn say_answer(answer: Verdict, direction: u8) {
     match answer {
-        Verdict::Accepted => say_change(direction),
+        Verdict::Accepted => {
+            say_change(direction);
+            say(b"\n");
+        }
+        Verdict::Refused(r) => say_two(b" refused", r.number as usize, r.place),
+    }
+}
+
+// Tells what a failure would change, with the number of counters, or its refusal.
+fn say_preview(answer: Verdict, foretold: Foretold, changes: usize) {
+    match answer {
+        Verdict::Accepted => {
+            say_change(foretold.direction);
+            say_field(changes);
+            say(b"\n");
+        }
         Verdict::Refused(r) => say_two(b" refused", r.number as usize, r.place),
     }
 }
@@ -96,23 +123,38 @@ fn direction_at(s: Session, p: usize) -> u8 {
     words::get(&directions, p)
 }
 
-// The direction of the path that a report brings or takes away.
-fn changed_direction(before: Session, after: Session, failing: bool, p: usize) -> u8 {
-    if failing {
-        return direction_at(after, p);
-    }
-    direction_at(before, p)
+// Tells what a failure would do.
+fn preview(s: Session, p: usize) {
+    let r = previews::preview(s, true, p);
+    let answer = r.answer;
+    let foretold = r.foretold;
+    say_preview(answer, foretold, previews::count_changes(s, foretold));
 }
 
-// A report, told with its answer.
-fn report(s: Session, failing: bool, row: usize, column: usize) -> Session {
-    let p = position_of(row, column);
-    let r = sessions::report(s, failing, p);
-    let answer = r.answer;
-    let after = r.session;
-    say_report(failing, row, column);
-    say_answer(answer, changed_direction(s, after, failing, p));
-    after
+// Does what a line asks and tells its answer. The session is the one that is held then.
+fn carry_out(s: Session, asked: Asked, p: usize) -> Session
+    ensures { λ r. ⌜ r ≡ held-after s asked p ⌝ }
+{
+    match asked {
+        Asked::Fail => {
+            let r = sessions::report(s, true, p);
+            let answer = r.answer;
+            let failed = r.session;
+            say_answer(answer, direction_at(failed, p));
+            failed
+        }
+        Asked::Recover => {
+            let r = sessions::report(s, false, p);
+            let answer = r.answer;
+            let recovered = r.session;
+            say_answer(answer, direction_at(s, p));
+            recovered
+        }
+        Asked::Preview => {
+            preview(s, p);
+            s
+        }
+    }
 }
 
 // Whether a line is blank or a comment.
@@ -121,16 +163,28 @@ fn is_remark(line: &[u8]) -> bool {
     words::is_empty(first) | (words::get(line, first.start) == b'#')
 }
 
-// Whether a line is a report.
-fn is_report(line: &[u8]) -> bool {
-    let known = words::is_word(line, 0, b"fail") | words::is_word(line, 0, b"recover");
+// Whether a line asks something.
+fn is_asking(line: &[u8]) -> bool {
+    let report = words::is_word(line, 0, b"fail") | words::is_word(line, 0, b"recover");
+    let known = report | words::is_word(line, 0, b"preview");
     let numbers = words::number(line, 1).ok & words::number(line, 2).ok;
     (known & numbers) & words::has_words(line, 3)
 }
 
+// What such a line asks.
+fn asked_by(line: &[u8]) -> Asked {
+    if words::is_word(line, 0, b"fail") {
+        return Asked::Fail;
+    }
+    if words::is_word(line, 0, b"recover") {
+        return Asked::Recover;
+    }
+    Asked::Preview
+}
+
 // A line that is no remark, k-th of its text.
 fn obey(s: Session, line: &[u8], k: usize) -> Step {
-    if !is_report(line) {
+    if !is_asking(line) {
         say(b"wrong");
         say_field(k);
         say(b"\n");
@@ -141,7 +195,9 @@ fn obey(s: Session, line: &[u8], k: usize) -> Step {
     }
     let row = words::number(line, 1).value;
     let column = words::number(line, 2).value;
-    let after = report(s, words::is_word(line, 0, b"fail"), row, column);
+    let asked = asked_by(line);
+    say_asked(asked, row, column);
+    let after = carry_out(s, asked, position_of(row, column));
     Step {
         session: after,
         wrong: false,
