@@ -66,18 +66,33 @@ static void print_link(chantspruce_link a)
     printf(", position %zu, port %u, switches %u\n", a.position, (unsigned)a.port, (unsigned)a.switches);
 }
 
+static unsigned sum_of(const uint8_t *buffer)
+{
+    unsigned sum = 0;
+    for (size_t p = 0; p < B; p++)
+        sum += buffer[p];
+    return sum;
+}
+
 /* Prints a result, and of its session the size, the sums of the marks and of the directions, and those of the counters. */
 static void print_started(chantspruce_started a)
 {
     const uint8_t *const buffers[] = {a.session.grid, a.session.directions, a.session.south, a.session.north, a.session.east, a.session.west};
     print_first("start_session", a.number, a.place, a.second);
     printf(", rows %zu, columns %zu, sums", a.session.rows, a.session.columns);
-    for (size_t i = 0; i < sizeof buffers / sizeof buffers[0]; i++) {
-        unsigned sum = 0;
-        for (size_t p = 0; p < B; p++)
-            sum += buffers[i][p];
-        printf(" %u", sum);
-    }
+    for (size_t i = 0; i < sizeof buffers / sizeof buffers[0]; i++)
+        printf(" %u", sum_of(buffers[i]));
+    puts("");
+}
+
+/* Prints a result and the sums of its counters. */
+static void print_preview(chantspruce_preview a)
+{
+    const uint8_t *const buffers[] = {a.south, a.north, a.east, a.west};
+    print_first("preview_processor", a.number, a.place, a.second);
+    printf(", direction %u, sums", (unsigned)a.direction);
+    for (size_t i = 0; i < sizeof buffers / sizeof buffers[0]; i++)
+        printf(" %u", sum_of(buffers[i]));
     puts("");
 }
 
@@ -242,6 +257,38 @@ static void call_session(void)
     print_started(field);
 }
 
+/* Previews of a session that has another mark and direction at a position: there is no processor at the one that is reported. */
+static void preview_damaged(chantspruce_session s, size_t p, uint8_t mark, uint8_t direction)
+{
+    s.grid[p] = mark;
+    s.directions[p] = direction;
+    print_preview(chantspruce_preview_processor(&s, true, SIZE_MAX));
+}
+
+/* Previews of a session of the first map: accepted ones, and one with each refusal that there is. A session has no length that could be wrong. */
+static void call_preview(void)
+{
+    const size_t right = CHANTSPRUCE_POSITION(1, 2), below = CHANTSPRUCE_POSITION(2, 1), across_from = CHANTSPRUCE_POSITION(2, 2);
+    print_head("read_map", chantspruce_read_map(map_file, sizeof map_file, grid, B));
+    print_plan_head(chantspruce_read_plan(plan_file, sizeof plan_file, directions, B));
+    chantspruce_started field = chantspruce_start_session(2, 2, grid, B, directions, B);
+    print_preview(chantspruce_preview_processor(&field.session, true, across_from));
+    print_preview(chantspruce_preview_processor(&field.session, true, CHANTSPRUCE_POSITION(0, 2)));
+    print_preview(chantspruce_preview_processor(&field.session, false, CHANTSPRUCE_POSITION(1, 1)));
+    print_preview(chantspruce_preview_processor(&field.session, true, SIZE_MAX));
+    print_preview(chantspruce_preview_processor(&field.session, false, across_from));
+    print_preview(chantspruce_preview_processor(&field.session, true, below));
+    preview_damaged(field.session, right, CHANTSPRUCE_NO_PROCESSOR, 0);
+    preview_damaged(field.session, right, CHANTSPRUCE_FAULTY, 0);
+    preview_damaged(field.session, below, CHANTSPRUCE_FAULTY, CHANTSPRUCE_WEST);
+    preview_damaged(field.session, across_from, CHANTSPRUCE_FAULTY, CHANTSPRUCE_WEST);
+    preview_damaged(field.session, across_from, CHANTSPRUCE_FAULTY, CHANTSPRUCE_NORTH);
+    field.session.south[right] = field.session.north[right] = field.session.east[right] = 255;
+    print_preview(chantspruce_preview_processor(&field.session, true, right));
+    field.session.columns = 0;
+    print_preview(chantspruce_preview_processor(&field.session, true, right));
+}
+
 int main(void)
 {
     call_readers();
@@ -252,6 +299,7 @@ int main(void)
     call_quickly();
     call_exactly();
     call_session();
+    call_preview();
     print_listing("report", chantspruce_report(map_file, sizeof map_file, out, sizeof out));
     print_bytes("report", chantspruce_report(map_file, sizeof map_file, out, 10));
     return 0;

@@ -1,16 +1,19 @@
 /*
- * A controller in the field: plans a map, starts a session from the plan, and reports to it that processors fail and recover. After each report
- * it compares the session with one that is started afresh from the same map and directions.
+ * A controller in the field: plans a map, starts a session from the plan, and reports to it that processors fail and recover. Before each report
+ * it previews it, on the session and on a copy in memory that cannot be written to. After the report it compares both previews with what the
+ * report did, and the session with one that is started afresh from the same map and directions.
  *
  *     field [FILE REPORT...]
  *
  * FILE is a map. A report is a sign, a row, a comma and a column: -2,5 for a processor that fails, +2,5 for one that recovers. Without arguments
  * it has a map and reports of its own. The exit status is 0 where all reports are made, accepted or refused, 1 where the map is refused or has
- * no plan, 2 where the file or a report cannot be read, 3 where an answer is not what chantspruce.h promises.
+ * no plan, 2 where the file or a report cannot be read or there is no memory to protect, 3 where an answer is not what chantspruce.h promises.
  */
+#define _DEFAULT_SOURCE
 #include <chantspruce.h>
 #include <stdio.h>
 #include <string.h>
+#include <sys/mman.h>
 
 enum { B = CHANTSPRUCE_BUFFER };
 enum { DONE = 0, NO_PLAN = 1, NOT_READ = 2, BROKEN = 3 };
@@ -47,13 +50,60 @@ static size_t position_of(size_t row, size_t column)
     return row < 32 && column < 32 ? CHANTSPRUCE_POSITION(row, column) : B;
 }
 
-/* Makes a report and prints what happened. */
+/* Previews a report on a copy of a session that can only be read: a write to it would end the program. */
+static bool preview_protected(const chantspruce_session *s, bool failing, size_t p, chantspruce_preview *seen)
+{
+    chantspruce_session *copy = mmap(NULL, sizeof *s, PROT_READ | PROT_WRITE, MAP_PRIVATE | MAP_ANONYMOUS, -1, 0);
+    if (copy == MAP_FAILED)
+        return false;
+    *copy = *s;
+    if (mprotect(copy, sizeof *s, PROT_READ) != 0)
+        return false;
+    *seen = chantspruce_preview_processor(copy, failing, p);
+    return munmap(copy, sizeof *s) == 0;
+}
+
+/* Whether the direction and all counters of a preview are 0. */
+static bool is_empty(const chantspruce_preview *seen)
+{
+    bool empty = seen->direction == 0;
+    for (size_t p = 0; p < B; p++)
+        empty = empty && !seen->south[p] && !seen->north[p] && !seen->east[p] && !seen->west[p];
+    return empty;
+}
+
+/* Whether a preview is what the report answered and left. */
+static bool foretells(const chantspruce_preview *seen, chantspruce_verdict told, const chantspruce_session *after, size_t p)
+{
+    if (seen->number != told.number || seen->place != told.place || seen->second != told.second)
+        return false;
+    if (told.number != CHANTSPRUCE_ACCEPTED)
+        return is_empty(seen);
+    return seen->direction == after->directions[p] && memcmp(seen->south, after->south, B) == 0 && memcmp(seen->north, after->north, B) == 0
+           && memcmp(seen->east, after->east, B) == 0 && memcmp(seen->west, after->west, B) == 0;
+}
+
+/* Previews a report, makes it and prints what happened. */
 static int make_report(chantspruce_session *s, report r)
 {
     chantspruce_session before = *s;
+    chantspruce_preview seen, seen_protected;
     size_t p = position_of(r.row, r.column);
-    chantspruce_verdict told = chantspruce_report_processor(s, r.failing, p);
     printf("%c%zu,%zu: ", r.failing ? '-' : '+', r.row, r.column);
+    if (!preview_protected(s, r.failing, p, &seen_protected)) {
+        puts("no memory to protect");
+        return NOT_READ;
+    }
+    seen = chantspruce_preview_processor(s, r.failing, p);
+    if (memcmp(&before, s, sizeof *s) != 0) {
+        puts("the preview alters the session");
+        return BROKEN;
+    }
+    chantspruce_verdict told = chantspruce_report_processor(s, r.failing, p);
+    if (!foretells(&seen, told, s, p) || !foretells(&seen_protected, told, s, p)) {
+        puts("the preview is another");
+        return BROKEN;
+    }
     if (told.number != CHANTSPRUCE_ACCEPTED) {
         printf("refused with %u, place %zu, second %zu\n", (unsigned)told.number, told.place, told.second);
         return memcmp(&before, s, sizeof *s) == 0 ? DONE : BROKEN;

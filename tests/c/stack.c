@@ -21,7 +21,7 @@ static const uint8_t map_file[] = {4, 4, 7, 0, 1, 1, 4, 2, 0, 2, 1, 4, 3, 4, 5, 
 static const uint8_t plan_file[] = {4, 4, 3, 1, 4, CHANTSPRUCE_EAST, 2, 1, CHANTSPRUCE_SOUTH, 4, 3, CHANTSPRUCE_NORTH,
                                     0xFF, 0xFF, 0x7F};
 
-/* THE CALLS. Each is accepted, in the order of the table below. */
+/* THE CALLS. Each is accepted, in the order of the table below, but for one preview. */
 
 static uint32_t number;
 
@@ -130,6 +130,18 @@ static void call_report_processor(void)
     number |= chantspruce_report_processor(&field.session, false, CHANTSPRUCE_POSITION(4, 4)).number;
 }
 
+/* Previews of a processor that would get a path, of a recovery and of a failure that is refused. */
+static void call_preview_processor(void)
+{
+    static chantspruce_preview seen;
+    seen = chantspruce_preview_processor(&field.session, true, CHANTSPRUCE_POSITION(4, 4));
+    number = seen.number;
+    seen = chantspruce_preview_processor(&field.session, false, CHANTSPRUCE_POSITION(2, 1));
+    number |= seen.number;
+    seen = chantspruce_preview_processor(&field.session, true, CHANTSPRUCE_POSITION(2, 1));
+    number |= seen.number != CHANTSPRUCE_NOTHING_NEW;
+}
+
 static void call_report(void)
 {
     number = chantspruce_report(map_file, sizeof map_file, out, sizeof out).number;
@@ -168,7 +180,8 @@ static const struct {
     {"run_quickly", call_run_quickly, 16},
     {"run_exactly", call_run_exactly, 16},
     {"start_session", call_start_session, 24},
-    {"report_processor", call_report_processor, 16},
+    {"report_processor", call_report_processor, 24},
+    {"preview_processor", call_preview_processor, 40},
     {"report", call_report, 52},
     {"report_quickly", call_report_quickly, 52},
     {"report_exactly", call_report_exactly, 52},

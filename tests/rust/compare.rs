@@ -34,6 +34,8 @@ pub struct Buffers {
     pub file: Guarded<u8>,
     pub out: Guarded<u8>,
     pub session: GuardedSession,
+    /// The counters of a preview, which are given by value and have no guards.
+    pub counters: [Vec<u8>; 4],
 }
 
 impl Buffers {
@@ -48,6 +50,7 @@ impl Buffers {
             file: Guarded::new(u8::from),
             out: Guarded::new(u8::from),
             session: GuardedSession::new(),
+            counters: Default::default(),
         }
     }
 
@@ -63,6 +66,7 @@ impl Buffers {
         if let Some(session) = &case.session {
             self.session.set(session);
         }
+        self.counters.clone_from(&case.counters);
     }
 
     /// The first buffer that differs from the case's or has a guard changed.
@@ -77,6 +81,7 @@ impl Buffers {
             ("file", self.file.holds(&case.file)),
             ("out", self.out.holds(&case.out)),
             ("session", case.session.as_ref().is_none_or(|session| self.session.holds(session))),
+            ("counters", self.counters == case.counters),
         ];
         held.into_iter().find(|(_, same)| !same).map(|(name, _)| name)
     }
@@ -110,6 +115,7 @@ fn held(buffers: &mut Buffers, name: &str, after: &Case) -> String {
         "out" => (&mut buffers.out, &after.out),
         "session" => return format!("it holds {:?}\nshould be {:?}", buffers.session.lend(), after.session),
         "faults" => return format!("it holds {:?}\nshould be {:?}", buffers.faults.lend(), after.faults),
+        "counters" => return format!("they are {:?}\nshould be {:?}", buffers.counters, after.counters),
         _ => return format!("places {:?}\nshould be {:?}", buffers.places.lend(), after.places),
     };
     format!("it holds {:?}\nshould be {wanted:?}", buffer.lend())

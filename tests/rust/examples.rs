@@ -206,7 +206,7 @@ fn trials_hold() -> bool {
 }
 
 /// A list of reports to a 2 x 2 session without faults: fails or recovers, where, and the answer (the direction, or the refusal and its place),
-/// then the counters of the inner processors in row order, south, north, east and west of each.
+/// then the counters of the inner processors in row order, south, north, east and west of each. Each is previewed before it is made.
 fn reports_hold() -> bool {
     let reports: [(bool, Cell, Result<u8, (u32, usize)>); 14] = [
         (true, (1, 1), Ok(1)),
@@ -230,8 +230,12 @@ fn reports_hold() -> bool {
         return false;
     };
     let answered = reports.iter().all(|&(failing, place, wanted)| {
+        let seen = reference::preview_processor(&session, failing, position(place));
         let answer = reference::report_processor(&mut session, failing, position(place));
+        let seen_answer = seen.as_ref().map(|seen| seen.direction).map_err(|e| (e.number, e.place));
         answer.map(|change| change.direction).map_err(|e| (e.number, e.place)) == wanted
+            && seen_answer == wanted.map(|direction| if failing { direction } else { 0 })
+            && seen.is_ok_and(|seen| seen.counters == session.counters) == wanted.is_ok()
     });
     let counters = [33, 34, 65, 66].map(|p| [0, 1, 2, 3].map(|d: usize| session.counters[d][p]));
     map.is_ok() && answered && counters == [[0, 0, 1, 0], [1, 0, 0, 0], [0, 0, 1, 0], [0, 1, 0, 0]]

@@ -30,8 +30,10 @@ pub struct Case {
     pub session: Option<Session>,
     pub failing: bool,
     pub place: usize,
-    /// What an accepted report changes, set by the reference.
+    /// What an accepted report changes or would change, set by the reference.
     pub change: Change,
+    /// The counters that a preview gives: south, north, east, west.
+    pub counters: [Vec<u8>; 4],
 }
 
 /// Sizes that no array has.

@@ -542,7 +542,7 @@ const EXACT_KINDS: [u32; 15] = [
     DEAD + 3,
 ];
 
-pub const OPERATIONS: [Operation; 24] = [
+pub const OPERATIONS: [Operation; 25] = [
     CHECK_PLAN,
     CHECK_FAULT_LIST,
     PLAN_REPAIR,
@@ -567,6 +567,7 @@ pub const OPERATIONS: [Operation; 24] = [
     START_SESSION,
     REPORT_PROCESSOR,
     LIST_OF_REPORTS,
+    PREVIEW_PROCESSOR,
 ];
 
 const CHECK_PLAN: Operation = Operation {
@@ -1006,6 +1007,34 @@ const START_SESSION: Operation = Operation {
     sized: true,
 };
 
+/// All answers to a report on any session, and to its preview.
+const REPORT_KINDS: [u32; 24] = [
+    1,
+    3,
+    4,
+    5,
+    6,
+    7,
+    15,
+    22,
+    23,
+    24,
+    RECOVERING + 22,
+    RECOVERING + 23,
+    TAKES,
+    TAKES + 1,
+    TAKES + 2,
+    TAKES + 3,
+    TAKES + 4,
+    GIVES_UP,
+    GIVES_UP + 1,
+    GIVES_UP + 2,
+    GIVES_UP + 3,
+    GIVES_UP + 4,
+    STOPS_AT_255,
+    STOPS_AT_0,
+];
+
 /// A report to a session that may be damaged or have any counters.
 const REPORT_PROCESSOR: Operation = Operation {
     name: "report_processor",
@@ -1016,32 +1045,7 @@ const REPORT_PROCESSOR: Operation = Operation {
     safe: report_said,
     kind: by_report,
     dead: never,
-    kinds: &[
-        1,
-        3,
-        4,
-        5,
-        6,
-        7,
-        15,
-        22,
-        23,
-        24,
-        RECOVERING + 22,
-        RECOVERING + 23,
-        TAKES,
-        TAKES + 1,
-        TAKES + 2,
-        TAKES + 3,
-        TAKES + 4,
-        GIVES_UP,
-        GIVES_UP + 1,
-        GIVES_UP + 2,
-        GIVES_UP + 3,
-        GIVES_UP + 4,
-        STOPS_AT_255,
-        STOPS_AT_0,
-    ],
+    kinds: &REPORT_KINDS,
     sized: true,
 };
 
@@ -1090,4 +1094,71 @@ fn report_flat(c: &Case, b: &mut Buffers) -> Answer {
 fn report_said(c: &Case, b: &mut Buffers) -> Answer {
     let session = b.session.lend();
     said(if c.failing { session.fail(c.place) } else { session.recover(c.place) }, |()| NO_VALUES)
+}
+
+/// The preview of a report to a session that may be damaged or have any counters. Its values are the direction, and whether all that it tells is
+/// what the report leaves on a copy of the session. A refused preview has counters of zeros beside it; the wrapper's has none.
+const PREVIEW_PROCESSOR: Operation = Operation {
+    name: "preview_processor",
+    seed: 25,
+    make: Maker::for_report_processor,
+    reference: preview_told,
+    flat: preview_flat,
+    safe: preview_said,
+    kind: by_report,
+    dead: never,
+    kinds: &REPORT_KINDS,
+    sized: true,
+};
+
+fn no_counters() -> [Vec<u8>; 4] {
+    [(); 4].map(|()| vec![0; reference::LENGTH])
+}
+
+fn preview_told(c: &mut Case) -> Answer {
+    let session = c.session.as_ref().expect("a session");
+    let result = reference::preview_processor(session, c.failing, c.place);
+    c.change = result.as_ref().map(|seen| seen.change).unwrap_or_default();
+    c.counters = result.as_ref().map_or_else(|_| no_counters(), |seen| seen.counters.clone());
+    beside_report(told(result, |seen| [seen.direction.into(), 0, 0, 0]), true)
+}
+
+/// The answer of a preview, with whether it agrees with the report.
+fn beside_report(preview: Answer, agrees: bool) -> Answer {
+    Answer { values: [preview.values[0], agrees.into(), 0, 0], ..preview }
+}
+
+fn preview_flat(c: &Case, b: &mut Buffers) -> Answer {
+    let mut copy = b.session.lend().clone();
+    let seen = flat::preview_processor(b.session.lend(), c.failing, c.place);
+    let report = flat::report_processor(&mut copy, c.failing, c.place);
+    let (direction, counters) = if report.number == 0 { left(&copy, c.place) } else { (0, no_counters()) };
+    b.counters = [seen.south, seen.north, seen.east, seen.west].map(|counters| counters.to_vec());
+    let first = flat::Verdict { number: seen.number, place: seen.place, second: seen.second };
+    let agrees = first == report && seen.direction == u32::from(direction) && b.counters == counters;
+    beside_report(Answer { values: [seen.direction as usize, 0, 0, 0], ..verdict(first) }, agrees)
+}
+
+fn preview_said(c: &Case, b: &mut Buffers) -> Answer {
+    let mut copy = b.session.lend().clone();
+    let session = b.session.lend();
+    let seen = if c.failing { session.preview_failure(c.place) } else { session.preview_recovery(c.place) };
+    let report = if c.failing { copy.fail(c.place) } else { copy.recover(c.place) };
+    b.counters = no_counters();
+    let seen = seen.map(|seen| {
+        b.counters = [seen.south, seen.north, seen.east, seen.west].map(|counters| counters.to_vec());
+        seen.direction
+    });
+    let agrees = match (&seen, report) {
+        (Ok(direction), Ok(())) => (*direction, b.counters.clone()) == left(&copy, c.place),
+        (Err(preview), Err(report)) => *preview == report,
+        _ => false,
+    };
+    beside_report(said(seen, |direction| [direction.into(), 0, 0, 0]), agrees)
+}
+
+/// The direction of a reported processor and all counters, after an accepted report.
+fn left(after: &chantspruce::Session, place: usize) -> (u8, [Vec<u8>; 4]) {
+    let counters = [&after.south, &after.north, &after.east, &after.west];
+    (after.directions[place], counters.map(|counters| counters.to_vec()))
 }

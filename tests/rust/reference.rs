@@ -385,6 +385,53 @@ pub fn report_processor(session: &mut Session, failing: bool, place: usize) -> R
     Ok(Change { direction, stopped })
 }
 
+/// What a report would leave: the direction of the reported processor and all counters. `change` is what the report would change.
+#[derive(Clone, Debug, PartialEq, Eq)]
+pub struct Foretold {
+    pub direction: u8,
+    pub counters: [Vec<u8>; 4],
+    pub change: Change,
+}
+
+/// The preview of a report, without one: the counters are those of the session, with a count of the path that would come or go added or
+/// subtracted.
+pub fn preview_processor(session: &Session, failing: bool, place: usize) -> Result<Foretold, Refusal> {
+    let Planned { array, paths } = test_plan(session.rows, session.columns, &session.grid, &session.directions, &[])?;
+    if !array.is_processor(cell(place)) {
+        return refuse(15, 0);
+    }
+    let change = match (failing, session.grid[place]) {
+        (true, HEALTHY) => foresee_path(array, &paths, session, place)?,
+        (false, FAULTY) => paths.into_iter().find(|path| position(path.start) == place),
+        (false, DEAD) => return refuse(23, place),
+        _ => return refuse(22, place),
+    };
+    let mut counters = session.counters.clone();
+    let mut stopped = false;
+    let counts = count(array, change.as_slice());
+    for (counter, &by) in counters.iter_mut().flatten().zip(counts.iter().flatten()) {
+        let exact = i32::from(*counter) + if failing { i32::from(by) } else { -i32::from(by) };
+        *counter = exact.clamp(0, 255) as u8;
+        stopped |= exact != i32::from(*counter);
+    }
+    let direction = change.map_or(0, |path| path.direction as u8);
+    Ok(Foretold { direction: if failing { direction } else { 0 }, counters, change: Change { direction, stopped } })
+}
+
+/// The path that a healthy processor would get if it failed; a spare gets none.
+fn foresee_path(array: Array, paths: &[Path], session: &Session, place: usize) -> Result<Option<Path>, Refusal> {
+    let at = cell(place);
+    if paths.iter().flat_map(|path| &path.cells).any(|&c| c == at) {
+        return refuse(23, place);
+    }
+    if !array.is_inner(at) {
+        return Ok(None);
+    }
+    let clear = DIRECTIONS.iter().zip(&session.counters).filter(|(_, counters)| counters[place] == 0);
+    let mut ways = clear.map(|(&direction, _)| Path::new(array, at, direction));
+    ways.find(|path| path.is_open(&session.grid)).map_or_else(|| refuse(24, place), |path| Ok(Some(path)))
+}
+
 fn free_direction(array: Array, session: &Session, at: Cell) -> Option<Direction> {
     let is_free = |d: Direction| session.counters[d as usize - 1][position(at)] == 0;
     DIRECTIONS.into_iter().find(|&d| Path::new(array, at, d).is_open(&session.grid) && is_free(d))

@@ -293,6 +293,13 @@ impl Session {
         }
     }
 
+    /// The direction that the processor would have and the counters as they would be: the report, made on a copy.
+    pub fn preview(&self, failing: bool, p: usize) -> Result<(u8, [[u8; LONG]; 4]), Refusal> {
+        let mut copy = self.clone();
+        copy.report(failing, p)?;
+        Ok((copy.directions[p], copy.counters))
+    }
+
     pub fn report(&mut self, failing: bool, p: usize) -> Tested {
         let e = self.judge(failing, p)?;
         self.grid[p] = u8::from(failing);

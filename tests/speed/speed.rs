@@ -341,22 +341,42 @@ fn assert_same(a: &chantspruce::Session, b: &same::Session) {
     assert!(alike && counters.iter().zip(&b.counters).all(|(a, b)| *a == b), "two sessions");
 }
 
-/// The start of a session, and a report with the report that takes it back, of the first processor that gets a path.
-fn compare_session(faults: usize) {
-    let grid = find_map(faults, 1_000_000, |o| matches!(o, Outcome::Repaired(_)));
-    let mut directions = vec![0; LONG];
-    same::plan_repair(30, 30, &grid, &mut directions, 1_000_000).expect("a plan");
-    let directions = directions;
+fn compare_start(grid: &[u8], directions: &[u8], faults: usize) {
     compare(
         &format!("start_session, 30 x 30, {faults} faults"),
         50,
         &mut || {
-            black_box(chantspruce::Session::start(30, 30, black_box(&grid), &directions)).ok();
+            black_box(chantspruce::Session::start(30, 30, black_box(grid), directions)).ok();
         },
         &mut || {
-            black_box(same::start_session(30, 30, black_box(&grid), &directions)).ok();
+            black_box(same::start_session(30, 30, black_box(grid), directions)).ok();
         },
     );
+}
+
+/// The preview of a failure that is accepted; both give the same.
+fn compare_preview(a: &chantspruce::Session, b: &same::Session, place: usize, faults: usize) {
+    let seen = a.preview_failure(place).expect("a preview");
+    let counters = [seen.south, seen.north, seen.east, seen.west];
+    assert_eq!(b.preview(true, place).ok(), Some((seen.direction, counters)), "two previews");
+    compare(
+        &format!("preview of a failure, 30 x 30, {faults} faults"),
+        50,
+        &mut || {
+            black_box(black_box(a).preview_failure(black_box(place))).ok();
+        },
+        &mut || {
+            black_box(black_box(b).preview(true, black_box(place))).ok();
+        },
+    );
+}
+
+/// The start of a session, and a report with the report that takes it back, of the first processor that gets a path, and its preview.
+fn compare_session(faults: usize) {
+    let grid = find_map(faults, 1_000_000, |o| matches!(o, Outcome::Repaired(_)));
+    let mut directions = vec![0; LONG];
+    same::plan_repair(30, 30, &grid, &mut directions, 1_000_000).expect("a plan");
+    compare_start(&grid, &directions, faults);
     let mut a = chantspruce::Session::start(30, 30, &grid, &directions).expect("a plan");
     let mut b = same::start_session(30, 30, &grid, &directions).expect("a plan");
     assert_same(&a, &b);
@@ -380,6 +400,8 @@ fn compare_session(faults: usize) {
             black_box(b.report(false, black_box(place))).ok();
         },
     );
+    assert_same(&a, &b);
+    compare_preview(&a, &b, place, faults);
     assert_same(&a, &b);
 }
 

@@ -1,16 +1,19 @@
-// The lines that start a session, damage the one that is held, or report to it. The session is held from line to line.
+// The lines that start a session, damage the one that is held, report to it or preview a report. The session is held from
+// line to line.
 use crate::calls;
 use crate::settings;
 use crate::settings::Setup;
 use crate::show;
 use crate::show::Shown;
 use array::Verdict;
+use previews::Foretold;
 use sessions::Session;
 
 // The lines of a session.
 enum Kind {
     Start,
     Report,
+    Preview,
     Rows,
     Columns,
     Mark,
@@ -51,6 +54,9 @@ fn kind_of(line: &[u8]) -> Kind {
     }
     if words::is_word(line, 0, b"report") {
         return Kind::Report;
+    }
+    if words::is_word(line, 0, b"preview") {
+        return Kind::Preview;
     }
     if words::is_word(line, 0, b"held-rows") {
         return Kind::Rows;
@@ -222,7 +228,7 @@ fn say_reported(answer: Verdict, a: Session, b: Session) {
     }
 }
 
-// Whether a line is `report fail POSITION` or `report recover POSITION`.
+// Whether a line goes on after its first word as a report does: `fail POSITION` or `recover POSITION`.
 fn is_report(line: &[u8]) -> bool {
     let known = words::is_word(line, 1, b"fail") | words::is_word(line, 1, b"recover");
     (known & words::number(line, 2).ok) & words::has_words(line, 3)
@@ -242,6 +248,61 @@ fn report(line: &[u8], held: Session) -> Session {
     let session = r.session;
     say_reported(answer, held, session);
     session
+}
+
+// A session with the counters that are foretold.
+fn with_counters(s: Session, f: Foretold) -> Session {
+    let grid = s.grid;
+    let directions = s.directions;
+    let south = f.south;
+    let north = f.north;
+    let east = f.east;
+    let west = f.west;
+    Session {
+        rows: s.rows,
+        columns: s.columns,
+        grid: grid,
+        directions: directions,
+        south: south,
+        north: north,
+        east: east,
+        west: west,
+    }
+}
+
+// Whether everything that is foretold is 0.
+fn is_nothing(f: Foretold) -> bool {
+    let none = no_session();
+    (f.direction == 0) & are_counters_same(none, with_counters(none, f))
+}
+
+fn say_previewed(answer: Verdict, s: Session, f: Foretold) {
+    match answer {
+        Verdict::Accepted => {
+            show::say(b"accepted direction");
+            show::say_number(words::wide(f.direction));
+            say_counters(s, with_counters(s, f));
+        }
+        Verdict::Refused(r) => {
+            show::say_refusal(r);
+            say_empty(is_nothing(f));
+        }
+    }
+}
+
+fn preview(line: &[u8], held: Session) {
+    if !is_report(line) {
+        show::say(b"error");
+        return;
+    }
+    let r = previews::preview(
+        held,
+        words::is_word(line, 1, b"fail"),
+        words::number(line, 2).value,
+    );
+    let answer = r.answer;
+    let foretold = r.foretold;
+    say_previewed(answer, held, foretold);
 }
 
 // The number of a line with this name, for others the one that is held.
@@ -320,7 +381,19 @@ fn obey(line: &[u8], s: Setup, held: Session, grid: &[u8], directions: &[u8]) ->
             show::say(b" -> ");
             report(line, held)
         }
+        Kind::Preview => {
+            show::say(b" -> ");
+            preview(line, held);
+            held
+        }
         _ => damage(line, held),
+    }
+}
+
+// Says of a preview whether the session that is held after it is the one before it.
+fn say_held(line: &[u8], before: Session, after: Session) {
+    if let Kind::Preview = kind_of(line) {
+        show::say_kept(is_same(before, after));
     }
 }
 
@@ -331,6 +404,7 @@ pub fn answer(line: &[u8], s: Setup, held: Session, grid: &[u8], directions: &[u
     }
     show::say(line);
     let next = obey(line, s, held, grid, directions);
+    say_held(line, held, next);
     show::say(b"\n");
     next
 }
