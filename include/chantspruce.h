@@ -112,7 +112,8 @@
  * RESULTS
  *
  * Each result begins with `number`, `place` and `second`. An accepted call has number CHANTSPRUCE_ACCEPTED, which is 0, and 0 in both places;
- * its values follow. A refused call has one of the numbers 1 to 24 below and 0 in every value, and leaves every buffer and session as it was.
+ * its values follow. A refused call has one of the numbers below and 0 in every value, and leaves every buffer and session as it was. Today these
+ * are 1 to 24; what is proved is that none is above 29, which leaves later functions room for more.
  * Tests are made in a fixed order, which each function states, and the first that fails is returned.
  *
  *
@@ -128,8 +129,8 @@
  *    that are only read may be the same.
  *  - While a call runs, nothing else writes to its buffers or its session, and nothing else reads those that it writes to.
  *  - CHANTSPRUCE_STACK bytes of stack are free. (This is measured and not proved: each of the three listings takes less
- *    than 52 KiB, a preview less than 40 KiB, the start of a session and a report less than 24 KiB each, any other function
- *    less than 16 KiB.)
+ *    than that, 64 KiB, a preview less than 40 KiB, the start of a session and a report less than 24 KiB each, any other
+ *    function less than 16 KiB.)
  *    Nothing is allocated and nothing is kept between calls, so that calls on different buffers and sessions may run at
  *    the same time, and so may calls that only read the same ones, such as previews of one session.
  * Where one of these is not met the behaviour is undefined, and nothing is promised of the result.

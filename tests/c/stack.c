@@ -182,9 +182,9 @@ static const struct {
     {"start_session", call_start_session, 24},
     {"report_processor", call_report_processor, 24},
     {"preview_processor", call_preview_processor, 40},
-    {"report", call_report, 52},
-    {"report_quickly", call_report_quickly, 52},
-    {"report_exactly", call_report_exactly, 52},
+    {"report", call_report, 64},
+    {"report_quickly", call_report_quickly, 64},
+    {"report_exactly", call_report_exactly, 64},
 };
 
 /* THE STACK */

@@ -50,9 +50,9 @@ abbrev pub told : Verdict → Told
 told Accepted = accepts []
 told (Refused r) = refuses-as r
 
--- the documents' numbers of refusals are 1 to this one
+-- the documents' numbers of refusals are 1 to this one, the last that document 02 names
 abbrev pub last-number : ℕ
-last-number = 24
+last-number = 29
 
 -- no refusal, or one with such a number
 abbrev pub Numbered : Told → Type 0

@@ -427,7 +427,7 @@ fn answer_all(
     down: &mut [u8],
     file: &mut [u8],
 ) {
-    if 131072 < text.len() {
+    if 262144 < text.len() {
         return;
     }
     let mut s = Setup {
@@ -463,7 +463,7 @@ fn answer_all(
 }
 
 fn main() {
-    let mut text = [0u8; 131072];
+    let mut text = [0u8; 262144];
     let n = io::read_full(STDIN_FILENO, &mut text);
     let mut grid = [0u8; 1025];
     let mut directions = [0u8; 1025];

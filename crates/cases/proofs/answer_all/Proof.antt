@@ -9,7 +9,7 @@ use Rattle.cases.proofs.answer_all.Tie as tie
 
 abbrev Inv-loop : tie.InvT-loop
 Inv-loop text grid₀ directions₀ across₀ down₀ file₀ s₀ held₀ at₀ grid directions across down file s held at =
-    (length text ≤ 131072) × (length grid ≡ length grid₀) × (length directions ≡ length directions₀)
+    (length text ≤ 262144) × (length grid ≡ length grid₀) × (length directions ≡ length directions₀)
     × (length across ≡ length across₀) × (length down ≡ length down₀) × (length file ≡ length file₀)
 
 abbrev μ-loop : tie.MeasureT-loop
