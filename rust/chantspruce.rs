@@ -13,7 +13,8 @@
 //! Every buffer except file bytes, listings and lists of faults has [`BUFFER`] elements, indexed by position: 32 times the row, plus the column.
 //! An accepted call returns `Ok` and fills the buffers lent to it. A refused one returns a [`Refusal`] and leaves them as they were. No function panics.
 //! A [`Session`] keeps a plan up to date while processors fail and recover, one report at a time, and tells beforehand what a report would do.
-//! A call takes less than 64 KiB of stack; a thread with 128 KiB is enough for each, also where nothing is optimised (measured, not proved).
+//! In the library a call takes less than 64 KiB of stack; a thread with 128 KiB was enough for those that take most, without optimisation too
+//! (measured, not proved).
 //!
 //! ```
 //! use chantspruce::{BUFFER, Outcome, Refusal, direction, plan_repair, read_map};
