@@ -197,27 +197,6 @@ needed() {
     ' "$root/crates.txt" 2> /dev/null
 }
 
-# `run_choosing FILE CHOICE` runs the program on a file, which it writes another of to standard output, with a line on descriptor 3 that says what
-# is wanted. What the program tells is in `message`. Where it fails or the output cannot be written, the script ends; `unwritten` is its own.
-run_choosing() {
-    (exec 4>&1) 2> /dev/null || unwritten
-    message= status=2
-    {
-        exec 4>&1
-        message=$("$program" 2>&1 >&4 3<< END
-$2
-END
-)
-        status=$?
-    } < "$1"
-    # 141: the reader of the output has gone away
-    if [ $status -eq 141 ]; then unwritten; fi
-    if [ $status -ne 0 ]; then
-        say "the program failed on $1"
-        exit 2
-    fi
-}
-
 # `print FILE` prints what the program makes of a file: nothing where the program fails. The status also tells where the output could not be
 # written whole.
 print() {
@@ -248,7 +227,7 @@ meaning() {
         12) echo "byte $2: bytes follow the last record or the trials, or the number of dead processors is 0" ;;
         13) echo "byte $2: a direction is not 1 to 4" ;;
         14) echo "what is to be written needs room for $2 bytes" ;;
-        15) echo "there is no such cell, no such side, no such turning, or no processor where one is reported" ;;
+        15) echo "there is no such cell, no such side, or no processor where one is reported" ;;
         16) echo "$here: a switch letter that cannot stand there" ;;
         17) echo "$here: the track ends there" ;;
         18) echo "$here: the link would enter a fourth switch there" ;;

@@ -97,23 +97,6 @@
  * wrong counters a report may take a path that is not clear of another; the next one then refuses the session with 6 or 7.
  *
  *
- * TURNINGS
- *
- * There are eight ways to turn or mirror an array, so that maps from two probers can be kept in one orientation. Each
- * is a constant CHANTSPRUCE_SAME and so on. Of two rows of three processors, a to f, they make:
- *
- *     _SAME   _QUARTER_RIGHT   _HALF    _QUARTER_LEFT   _SWAP_TOP_BOTTOM   _SWAP_LEFT_RIGHT   _TRANSPOSE   _ANTI_TRANSPOSE
- *     a b c   d a              f e d    c f             d e f              c b a              a d          f c
- *     d e f   e b              c b a    b e             a b c              f e d              b e          e b
- *             f c                       a d                                                   c f          d a
- *
- * The ring of spares turns with the array, and N and M are exchanged where rows become columns. A map and a plan are turned
- * each by itself; the directions of a plan turn along. What comes out can be turned and written to a file again (1 to 3 of a
- * map and 1, 2 and 4 of a plan are proved not to refuse it), and nothing in it tells that it was turned. Each turning has an
- * inverse, by which every byte comes back, and two in a row do what one of the eight does: chantspruce_invert_turning and
- * chantspruce_compose_turnings name these.
- *
- *
  * FILES
  *
  * A number, 0 to 2,097,151, is one to three bytes, as few as hold it: seven bits in each, the low ones first, and the top
@@ -136,8 +119,8 @@
  *
  * WHAT THE CALLER MUST SEE TO
  *
- * Any number may be passed for any size, cell, side, position, offset, limit, trials or turning, any bytes in any buffer or session, and any
- * length: a wrong one is refused, but for the counters of a session. Beyond that, as for all C functions:
+ * Any number may be passed for any size, cell, side, position, offset, limit or trials, any bytes in any buffer or session, and any length: a
+ * wrong one is refused, but for the counters of a session. Beyond that, as for all C functions:
  *  - A pointer is valid for as many elements as the length after it says, and is aligned for its type. A length is in elements, not in bytes.
  *    A null pointer is never allowed. Where the length is 0 nothing is read or written, and any other pointer will do. A pointer to a session
  *    has no length after it and is valid for one session. That of a report can be written to, also where the report is refused; that of a
@@ -219,19 +202,6 @@ enum {
     CHANTSPRUCE_PORT_S = 3
 };
 
-/* TURNINGS */
-
-enum {
-    CHANTSPRUCE_SAME = 0,
-    CHANTSPRUCE_QUARTER_RIGHT = 1, /* clockwise: the first row becomes the last column */
-    CHANTSPRUCE_HALF = 2,
-    CHANTSPRUCE_QUARTER_LEFT = 3,
-    CHANTSPRUCE_SWAP_TOP_BOTTOM = 4,
-    CHANTSPRUCE_SWAP_LEFT_RIGHT = 5,
-    CHANTSPRUCE_TRANSPOSE = 6,     /* rows become columns: row x, column y goes to row y, column x */
-    CHANTSPRUCE_ANTI_TRANSPOSE = 7 /* the same and a half turn */
-};
-
 /* OUTCOMES OF A PLANNER */
 
 enum {
@@ -256,9 +226,8 @@ enum {
        lowest such position. */
     CHANTSPRUCE_WRONG_MARK = 3,
     /* A direction is above 4, or is 0 at a fault inside the array, or is not 0 elsewhere. Place: the lowest such position. In
-       chantspruce_write_plan and chantspruce_turn_plan, which take no grid: above 4, or not 0 at a position that is not inside. In
-       chantspruce_check_fault_list: the list is not the faults inside the array in row order, each with a direction of 1 to 4; its comment
-       has the place. */
+       chantspruce_write_plan, which takes no grid: above 4, or not 0 at a position that is not inside. In chantspruce_check_fault_list: the
+       list is not the faults inside the array in row order, each with a direction of 1 to 4; its comment has the place. */
     CHANTSPRUCE_WRONG_DIRECTION = 4,
     /* A path is not open: it runs over another fault, ends on a faulty spare, or starts at a dead processor without being one of the four kinds
        that such a processor may have. Place: where the path starts, the lowest of these. */
@@ -284,8 +253,7 @@ enum {
     CHANTSPRUCE_WRONG_FILE_DIRECTION = 13,
     /* The room for what is to be written is too short. Place: the length that is needed. */
     CHANTSPRUCE_NO_ROOM = 14,
-    /* There is no such cell, or the side is neither 0 nor 1. In a report or a preview: there is no processor at the position. In
-       a function on turnings: the number of a turning is above 7. */
+    /* There is no such cell, or the side is neither 0 nor 1. In a report or a preview: there is no processor at the position. */
     CHANTSPRUCE_NO_CELL = 15,
     /* A switch buffer has a byte that cannot stand there: not a to d at a switch, or not 0 elsewhere. Place: the lowest such position in
        either buffer. */
@@ -419,23 +387,6 @@ typedef struct chantspruce_length {
     size_t second;
     size_t length; /* how many bytes were written */
 } chantspruce_length;
-
-/* Of a turned map or plan. */
-typedef struct chantspruce_turned {
-    uint32_t number;
-    size_t place;
-    size_t second;
-    size_t rows;    /* N afterwards */
-    size_t columns; /* M afterwards */
-} chantspruce_turned;
-
-/* Of the inverse of a turning and of two in a row. */
-typedef struct chantspruce_turning {
-    uint32_t number;
-    size_t place;
-    size_t second;
-    uint32_t turning; /* CHANTSPRUCE_SAME to CHANTSPRUCE_ANTI_TRANSPOSE */
-} chantspruce_turning;
 
 /* THE REPAIR. `rows` is N and `columns` is M. */
 
@@ -574,32 +525,6 @@ chantspruce_verdict chantspruce_report_processor(chantspruce_session *session, b
  * The session is only read: it may lie in memory that cannot be written to, and others may read it during the call.
  * Refuses what the report refuses: 1 to 7 of the session, in this order, 6 and 7 pair by pair, then 15, 22, 23, 24, in this order. */
 chantspruce_preview chantspruce_preview_processor(const chantspruce_session *session, bool failing, size_t position);
-
-/* TURNINGS. `turning` is one of CHANTSPRUCE_SAME to CHANTSPRUCE_ANTI_TRANSPOSE. */
-
-/* Writes the turned map to `turned`, whatever that holds: the mark of each processor where that processor comes to stand, and
- * CHANTSPRUCE_NO_PROCESSOR everywhere else. The result has N and M afterwards.
- * Refuses 1, 2 (of either buffer), 3, 15, in this order. */
-chantspruce_turned chantspruce_turn_map(uint32_t turning, size_t rows, size_t columns,
-                                        const uint8_t *grid, size_t grid_length,
-                                        uint8_t *turned, size_t turned_length);
-
-/* Writes the turned plan to `turned`, whatever that holds: the direction of each path, turned along, where the processor
- * comes to stand that it starts at, and 0 everywhere else. The result has N and M afterwards. It takes no grid, and any
- * directions that chantspruce_write_plan takes.
- * Refuses 1, 2 (of either buffer), 4, 15, in this order. */
-chantspruce_turned chantspruce_turn_plan(uint32_t turning, size_t rows, size_t columns,
-                                         const uint8_t *directions, size_t directions_length,
-                                         uint8_t *turned, size_t turned_length);
-
-/* Gives the turning that undoes a turning: a map or plan that is turned by the one and then, with the N and M of that
- * result, by the other is what it was, byte for byte.
- * Refuses 15. */
-chantspruce_turning chantspruce_invert_turning(uint32_t turning);
-
-/* Gives the one turning that does what `first` and after it `second` do.
- * Refuses 15, where either is no turning. */
-chantspruce_turning chantspruce_compose_turnings(uint32_t first, uint32_t second);
 
 /* FILES */
 

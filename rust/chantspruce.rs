@@ -13,7 +13,6 @@
 //! Every buffer except file bytes, listings and lists of faults has [`BUFFER`] elements, indexed by position: 32 times the row, plus the column.
 //! An accepted call returns `Ok` and fills the buffers lent to it. A refused one returns a [`Refusal`] and leaves them as they were. No function panics.
 //! A [`Session`] keeps a plan up to date while processors fail and recover, one report at a time, and tells beforehand what a report would do.
-//! A [`Turning`] turns or mirrors maps and plans, so that those of two probers can be kept in one orientation.
 //! In the library a call takes less than 64 KiB of stack; a thread with 128 KiB was enough for those that take most, without optimisation too
 //! (measured, not proved).
 //!
@@ -78,56 +77,6 @@ pub mod side {
     pub const SOUTH: usize = 1;
 }
 
-/// One of the eight ways to turn or mirror an array. What each makes of the rows `abc` and `def` is said at it.
-#[derive(Clone, Copy, Debug, PartialEq, Eq)]
-pub enum Turning {
-    /// `abc`, `def`.
-    Same = 0,
-    /// `da`, `eb`, `fc`: clockwise.
-    QuarterRight = 1,
-    /// `fed`, `cba`.
-    Half = 2,
-    /// `cf`, `be`, `ad`.
-    QuarterLeft = 3,
-    /// `def`, `abc`.
-    SwapTopBottom = 4,
-    /// `cba`, `fed`.
-    SwapLeftRight = 5,
-    /// `ad`, `be`, `cf`.
-    Transpose = 6,
-    /// `fc`, `eb`, `da`.
-    AntiTranspose = 7,
-}
-
-impl Turning {
-    /// All eight, in the order of their numbers.
-    pub const ALL: [Turning; 8] = [
-        Turning::Same,
-        Turning::QuarterRight,
-        Turning::Half,
-        Turning::QuarterLeft,
-        Turning::SwapTopBottom,
-        Turning::SwapLeftRight,
-        Turning::Transpose,
-        Turning::AntiTranspose,
-    ];
-
-    /// The turning with a number, 0 to 7; any other has none.
-    pub fn of(number: u32) -> Option<Turning> {
-        Turning::ALL.get(number as usize).copied()
-    }
-
-    /// The turning that undoes this one.
-    pub fn inverse(self) -> Turning {
-        flat::invert_turning(self as u32).answer().expect("each of the eight has an inverse")
-    }
-
-    /// The one turning that does what this one and after it `next` do.
-    pub fn then(self, next: Turning) -> Turning {
-        flat::compose_turnings(self as u32, next as u32).answer().expect("two of the eight are a third")
-    }
-}
-
 /// Why a call is refused, with the number of the refusal.
 #[derive(Clone, Copy, Debug, PartialEq, Eq)]
 pub enum Reason {
@@ -159,8 +108,7 @@ pub enum Reason {
     RecordDirection = 13,
     /// The bytes to be written do not fit; the place is their number.
     Room = 14,
-    /// The array has no such cell, or a cell no such side, or the array has no processor at a reported position; in [`flat`] also: no turning has
-    /// this number.
+    /// The array has no such cell, or a cell no such side, or the array has no processor at a reported position.
     NoSuchLink = 15,
     /// A switch byte does not fit its position.
     SwitchByte = 16,
@@ -334,15 +282,6 @@ pub struct PlanHead {
     pub count: usize,
     /// The trials on record.
     pub trials: u32,
-}
-
-/// Size of a turned map or plan.
-#[derive(Clone, Copy, Debug, PartialEq, Eq)]
-pub struct Turned {
-    /// The rows of cells afterwards.
-    pub rows: usize,
-    /// The columns of cells afterwards.
-    pub columns: usize,
 }
 
 /// An inner fault and the direction of its path.
@@ -528,16 +467,6 @@ pub fn run_exactly(
     flat::run_exactly(n, m, grid, directions, places, across, down).decided_run()
 }
 
-/// Fills `turned` with the turned map: each mark where its processor comes to stand. Refusals: 1 to 3.
-pub fn turn_map(turning: Turning, n: usize, m: usize, grid: &[u8], turned: &mut [u8]) -> Result<Turned, Refusal> {
-    flat::turn_map(turning as u32, n, m, grid, turned).answer()
-}
-
-/// Fills `turned` with the turned plan: its directions turn along. It takes what [`write_plan`] takes. Refusals: 1, 2 and 4.
-pub fn turn_plan(turning: Turning, n: usize, m: usize, directions: &[u8], turned: &mut [u8]) -> Result<Turned, Refusal> {
-    flat::turn_plan(turning as u32, n, m, directions, turned).answer()
-}
-
 /// Reads the number at the offset `at` of `file`. Refusals: 8 and 9.
 pub fn read_number(file: &[u8], at: usize) -> Result<Number, Refusal> {
     flat::read_number(file, at).answer()
@@ -586,9 +515,7 @@ pub fn report_exactly(file: &[u8], out: &mut [u8]) -> Result<usize, Refusal> {
 /// for an accepted call and else the number of the refusal; the fields after `second` are 0 for a refused one.
 #[allow(clippy::too_many_arguments)]
 pub mod flat {
-    use super::{
-        BUFFER, Decision, Fault, Head, Link, Number, Outcome, PlanHead, Port, Preview, Reason, Refusal, Run, Session, Turned, Turning,
-    };
+    use super::{BUFFER, Decision, Fault, Head, Link, Number, Outcome, PlanHead, Port, Preview, Reason, Refusal, Run, Session};
 
     /// Of the plan checks, placement, routing and reports to a session.
     #[repr(C)]
@@ -694,27 +621,6 @@ pub mod flat {
         pub length: usize,
     }
 
-    /// Of a turned map or plan: N and M afterwards.
-    #[repr(C)]
-    #[derive(Clone, Copy, Debug, PartialEq, Eq)]
-    pub struct TurnedTo {
-        pub number: u32,
-        pub place: usize,
-        pub second: usize,
-        pub rows: usize,
-        pub columns: usize,
-    }
-
-    /// Of the inverse of a turning and of two in a row: the number of a [`Turning`].
-    #[repr(C)]
-    #[derive(Clone, Copy, Debug, PartialEq, Eq)]
-    pub struct TurningNumber {
-        pub number: u32,
-        pub place: usize,
-        pub second: usize,
-        pub turning: u32,
-    }
-
     /// The value of an accepted call, or the refusal that the first three fields of a struct tell.
     fn answer<T>(number: u32, place: usize, second: usize, value: Option<T>) -> Result<T, Refusal> {
         match (number, value) {
@@ -816,19 +722,6 @@ pub mod flat {
     impl Written {
         pub fn answer(self) -> Result<usize, Refusal> {
             answer(self.number, self.place, self.second, Some(self.length))
-        }
-    }
-
-    impl TurningNumber {
-        pub fn answer(self) -> Result<Turning, Refusal> {
-            answer(self.number, self.place, self.second, Turning::of(self.turning))
-        }
-    }
-
-    impl TurnedTo {
-        pub fn answer(self) -> Result<Turned, Refusal> {
-            let turned = Turned { rows: self.rows, columns: self.columns };
-            answer(self.number, self.place, self.second, Some(turned))
         }
     }
 
@@ -958,26 +851,6 @@ pub mod flat {
         -> Started;
         fn chantspruce_report_processor(session: *mut Session, failing: bool, position: usize) -> Verdict;
         fn chantspruce_preview_processor(session: *const Session, failing: bool, position: usize) -> Previewed;
-        fn chantspruce_turn_map(
-            turning: u32,
-            n: usize,
-            m: usize,
-            grid: Bytes,
-            grid_len: usize,
-            turned: BytesMut,
-            turned_len: usize,
-        ) -> TurnedTo;
-        fn chantspruce_turn_plan(
-            turning: u32,
-            n: usize,
-            m: usize,
-            directions: Bytes,
-            directions_len: usize,
-            turned: BytesMut,
-            turned_len: usize,
-        ) -> TurnedTo;
-        fn chantspruce_invert_turning(turning: u32) -> TurningNumber;
-        fn chantspruce_compose_turnings(first: u32, second: u32) -> TurningNumber;
         fn chantspruce_read_number(file: Bytes, file_len: usize, at: usize) -> NumberRead;
         fn chantspruce_read_map(file: Bytes, file_len: usize, grid: BytesMut, grid_len: usize) -> MapRead;
         fn chantspruce_read_plan(file: Bytes, file_len: usize, directions: BytesMut, directions_len: usize) -> PlanRead;
@@ -1152,24 +1025,6 @@ pub mod flat {
 
     pub fn preview_processor(session: &Session, failing: bool, position: usize) -> Previewed {
         unsafe { chantspruce_preview_processor(session, failing, position) }
-    }
-
-    pub fn turn_map(turning: u32, n: usize, m: usize, grid: &[u8], turned: &mut [u8]) -> TurnedTo {
-        let (g, t) = (grid, turned);
-        unsafe { chantspruce_turn_map(turning, n, m, g.as_ptr(), g.len(), t.as_mut_ptr(), t.len()) }
-    }
-
-    pub fn turn_plan(turning: u32, n: usize, m: usize, directions: &[u8], turned: &mut [u8]) -> TurnedTo {
-        let (d, t) = (directions, turned);
-        unsafe { chantspruce_turn_plan(turning, n, m, d.as_ptr(), d.len(), t.as_mut_ptr(), t.len()) }
-    }
-
-    pub fn invert_turning(turning: u32) -> TurningNumber {
-        unsafe { chantspruce_invert_turning(turning) }
-    }
-
-    pub fn compose_turnings(first: u32, second: u32) -> TurningNumber {
-        unsafe { chantspruce_compose_turnings(first, second) }
     }
 
     pub fn read_number(file: &[u8], at: usize) -> NumberRead {

@@ -31,10 +31,6 @@ static const uint8_t unsettled_map_file[] = {3, 3, 6, 0, 1, 1, 0, 1, 1, 3, 3, 3,
 static const uint8_t three_faults_file[] = {2, 2, 6, 0, 1, 1, 1, 1, 2, 2, 0, 2, 1, 3, 1};
 static const uint8_t no_plan_file[] = {1, 1, 5, 0, 1, 1, 0, 1, 1, 1, 2, 2, 1};
 
-/* 2 x 3 cells with a faulty spare, a fault and a dead processor, and a plan file that has two paths and 300 trials */
-static const uint8_t wide_map_file[] = {2, 3, 2, 0, 1, 1, 2, 1, 2, 1};
-static const uint8_t wide_plan_file[] = {2, 3, 2, 1, 2, CHANTSPRUCE_NORTH, 2, 1, CHANTSPRUCE_WEST, 0xAC, 2};
-
 static void print_first(const char *call, uint32_t number, size_t place, size_t second)
 {
     printf("%s: number %u, place %zu, second %zu", call, (unsigned)number, place, second);
@@ -293,51 +289,6 @@ static void call_preview(void)
     print_preview(chantspruce_preview_processor(&field.session, true, right));
 }
 
-/* Prints a result, and of an accepted call what the turned buffer holds in the rows and columns of the array. */
-static void print_turned(const char *call, chantspruce_turned a, const uint8_t *turned)
-{
-    print_first(call, a.number, a.place, a.second);
-    printf(", rows %zu, columns %zu", a.rows, a.columns);
-    for (size_t row = 0; a.number == CHANTSPRUCE_ACCEPTED && row <= a.rows + 1; row++) {
-        printf(row == 0 ? ": " : "/");
-        for (size_t column = 0; column <= a.columns + 1; column++)
-            printf("%u", (unsigned)turned[CHANTSPRUCE_POSITION(row, column)]);
-    }
-    puts("");
-}
-
-static void print_turning(const char *call, chantspruce_turning a)
-{
-    print_first(call, a.number, a.place, a.second);
-    printf(", turning %u\n", (unsigned)a.turning);
-}
-
-/* A map and a plan, turned and turned back by the inverse; two in a row and the one that they are; and what is refused. */
-static void call_turnings(void)
-{
-    static uint8_t turned[B], back[B];
-    print_head("read_map", chantspruce_read_map(wide_map_file, sizeof wide_map_file, grid, B));
-    print_turned("turn_map", chantspruce_turn_map(CHANTSPRUCE_QUARTER_RIGHT, 2, 3, grid, B, turned, B), turned);
-    chantspruce_turning inverse = chantspruce_invert_turning(CHANTSPRUCE_QUARTER_RIGHT);
-    print_turning("invert_turning", inverse);
-    print_turned("turn_map", chantspruce_turn_map(inverse.turning, 3, 2, turned, B, back, B), back);
-    print_turned("turn_map", chantspruce_turn_map(CHANTSPRUCE_SWAP_LEFT_RIGHT, 3, 2, turned, B, back, B), back);
-    chantspruce_turning both = chantspruce_compose_turnings(CHANTSPRUCE_QUARTER_RIGHT, CHANTSPRUCE_SWAP_LEFT_RIGHT);
-    print_turning("compose_turnings", both);
-    print_turned("turn_map", chantspruce_turn_map(both.turning, 2, 3, grid, B, turned, B), turned);
-    print_plan_head(chantspruce_read_plan(wide_plan_file, sizeof wide_plan_file, directions, B));
-    print_turned("turn_plan", chantspruce_turn_plan(CHANTSPRUCE_HALF, 2, 3, directions, B, turned, B), turned);
-    print_turned("turn_plan", chantspruce_turn_plan(CHANTSPRUCE_HALF, 2, 3, turned, B, back, B), back);
-    print_turned("turn_map", chantspruce_turn_map(CHANTSPRUCE_HALF, 31, 3, grid, B - 1, turned, B), turned);
-    print_turned("turn_map", chantspruce_turn_map(CHANTSPRUCE_HALF, 2, 3, grid, B, turned, B - 1), turned);
-    print_turned("turn_map", chantspruce_turn_map(8, 2, 2, grid, B, turned, B), turned);
-    print_turned("turn_map", chantspruce_turn_map(8, 2, 3, grid, B, turned, B), turned);
-    print_turned("turn_plan", chantspruce_turn_plan(UINT32_MAX, 2, 3, grid, B, turned, B), turned);
-    print_turned("turn_plan", chantspruce_turn_plan(UINT32_MAX, 2, 3, directions, B, turned, B), turned);
-    print_turning("invert_turning", chantspruce_invert_turning(8));
-    print_turning("compose_turnings", chantspruce_compose_turnings(CHANTSPRUCE_ANTI_TRANSPOSE, 8));
-}
-
 int main(void)
 {
     call_readers();
@@ -349,7 +300,6 @@ int main(void)
     call_exactly();
     call_session();
     call_preview();
-    call_turnings();
     print_listing("report", chantspruce_report(map_file, sizeof map_file, out, sizeof out));
     print_bytes("report", chantspruce_report(map_file, sizeof map_file, out, 10));
     return 0;

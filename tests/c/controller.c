@@ -39,7 +39,7 @@ static const char *reason(uint32_t number)
         "the file goes on after its last record",
         "a wrong direction in the file",
         "the room is too short",
-        "no such cell or side, no such processor, or no such turning",
+        "no such cell or side, or no such processor",
         "a wrong letter of a switch",
         "the track ends",
         "a fourth switch",

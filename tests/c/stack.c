@@ -142,26 +142,6 @@ static void call_preview_processor(void)
     number |= seen.number != CHANTSPRUCE_NOTHING_NEW;
 }
 
-static void call_turn_map(void)
-{
-    number = chantspruce_turn_map(CHANTSPRUCE_QUARTER_RIGHT, 4, 4, grid, B, across, B).number;
-}
-
-static void call_turn_plan(void)
-{
-    number = chantspruce_turn_plan(CHANTSPRUCE_QUARTER_RIGHT, 4, 4, directions, B, across, B).number;
-}
-
-static void call_invert_turning(void)
-{
-    number = chantspruce_invert_turning(CHANTSPRUCE_QUARTER_RIGHT).number;
-}
-
-static void call_compose_turnings(void)
-{
-    number = chantspruce_compose_turnings(CHANTSPRUCE_QUARTER_RIGHT, CHANTSPRUCE_TRANSPOSE).number;
-}
-
 static void call_report(void)
 {
     number = chantspruce_report(map_file, sizeof map_file, out, sizeof out).number;
@@ -202,10 +182,6 @@ static const struct {
     {"start_session", call_start_session, 24},
     {"report_processor", call_report_processor, 24},
     {"preview_processor", call_preview_processor, 40},
-    {"turn_map", call_turn_map, 16},
-    {"turn_plan", call_turn_plan, 16},
-    {"invert_turning", call_invert_turning, 16},
-    {"compose_turnings", call_compose_turnings, 16},
     {"report", call_report, 64},
     {"report_quickly", call_report_quickly, 64},
     {"report_exactly", call_report_exactly, 64},

@@ -33,7 +33,6 @@ pub struct Buffers {
     pub down: Guarded<u8>,
     pub file: Guarded<u8>,
     pub out: Guarded<u8>,
-    pub turned: Guarded<u8>,
     pub session: GuardedSession,
     /// The counters of a preview, which are given by value and have no guards.
     pub counters: [Vec<u8>; 4],
@@ -50,7 +49,6 @@ impl Buffers {
             down: Guarded::new(u8::from),
             file: Guarded::new(u8::from),
             out: Guarded::new(u8::from),
-            turned: Guarded::new(u8::from),
             session: GuardedSession::new(),
             counters: Default::default(),
         }
@@ -65,7 +63,6 @@ impl Buffers {
         self.down.set(&case.down);
         self.file.set(&case.file);
         self.out.set(&case.out);
-        self.turned.set(&case.turned);
         if let Some(session) = &case.session {
             self.session.set(session);
         }
@@ -83,7 +80,6 @@ impl Buffers {
             ("down", self.down.holds(&case.down)),
             ("file", self.file.holds(&case.file)),
             ("out", self.out.holds(&case.out)),
-            ("turned", self.turned.holds(&case.turned)),
             ("session", case.session.as_ref().is_none_or(|session| self.session.holds(session))),
             ("counters", self.counters == case.counters),
         ];
@@ -117,7 +113,6 @@ fn held(buffers: &mut Buffers, name: &str, after: &Case) -> String {
         "down" => (&mut buffers.down, &after.down),
         "file" => (&mut buffers.file, &after.file),
         "out" => (&mut buffers.out, &after.out),
-        "turned" => (&mut buffers.turned, &after.turned),
         "session" => return format!("it holds {:?}\nshould be {:?}", buffers.session.lend(), after.session),
         "faults" => return format!("it holds {:?}\nshould be {:?}", buffers.faults.lend(), after.faults),
         "counters" => return format!("they are {:?}\nshould be {:?}", buffers.counters, after.counters),

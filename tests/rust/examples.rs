@@ -1,5 +1,5 @@
-//! Document 01's worked maps, some with dead processors and some for the quick and the exact planner, bytes of files, and
-//! turned letters and paths, on which the reference itself is tried before it judges the library.
+//! Document 01's worked maps, some with dead processors and some for the quick and the exact planner, and bytes of files, on
+//! which the reference itself is tried before it judges the library.
 
 use crate::reference::{self, Cell, Decision, LENGTH, Outcome, Planner, decide, position, search_all, settle_and_search};
 
@@ -241,51 +241,6 @@ fn reports_hold() -> bool {
     map.is_ok() && answered && counters == [[0, 0, 1, 0], [1, 0, 0, 0], [0, 0, 1, 0], [0, 1, 0, 0]]
 }
 
-/// What each turning makes of the rows `abc` and `def`, and of a plan with the paths south from `a` and east from `f`: the row,
-/// the column and the direction of each.
-const TURNED: [(&str, [[usize; 3]; 2]); 8] = [
-    ("abc def", [[1, 1, 1], [2, 3, 3]]),
-    ("da eb fc", [[1, 2, 4], [3, 1, 1]]),
-    ("fed cba", [[1, 1, 4], [2, 3, 2]]),
-    ("cf be ad", [[1, 2, 2], [3, 1, 3]]),
-    ("def abc", [[1, 3, 3], [2, 1, 2]]),
-    ("cba fed", [[1, 3, 1], [2, 1, 4]]),
-    ("ad be cf", [[1, 1, 3], [3, 2, 1]]),
-    ("fc eb da", [[1, 1, 2], [3, 2, 4]]),
-];
-
-fn turnings_hold() -> bool {
-    let mut plan = [0; LENGTH];
-    (plan[position((1, 1))], plan[position((2, 3))]) = (1, 3);
-    let each = (0..8).zip(TURNED).all(|(turning, (letters, paths))| {
-        let mut turned = [9; LENGTH];
-        let size = reference::turn_plan(turning, 2, 3, &plan, &mut turned);
-        let lettered = rows(&reference::letters_after(&[turning])) == letters;
-        lettered && size.is_ok_and(|size| reference::plan_records(size, &turned) == paths)
-    });
-    let inverses = (0..8).map(reference::invert_turning).eq([0, 3, 2, 1, 4, 5, 6, 7].map(Ok));
-    let both = [(1, 1), (1, 3), (1, 5), (5, 1), (6, 4), (6, 5)].map(|(a, b)| reference::compose_turnings(a, b));
-    each && inverses && both == [2, 0, 6, 7, 3, 1].map(Ok) && turned_map_holds()
-}
-
-/// The letters of a buffer, row by row.
-fn rows(letters: &[u8]) -> String {
-    let row = |row: &[u8]| row.iter().filter(|b| **b != 0).map(|b| *b as char).collect::<String>();
-    letters.chunks(32).map(row).filter(|row| !row.is_empty()).collect::<Vec<String>>().join(" ")
-}
-
-/// A faulty spare above and a dead processor, turned to the right, and the refusals before that of the turning.
-fn turned_map_holds() -> bool {
-    let (mut grid, mut turned) = ([0; LENGTH], [9; LENGTH]);
-    let read = reference::read_map(&[2, 3, 1, 0, 1, 1, 2, 3], &mut grid);
-    let size = reference::turn_map(1, 2, 3, &grid, &mut turned).map(|size| (size.rows, size.columns));
-    let mut wanted = [0; LENGTH];
-    let expected = reference::read_map(&[3, 2, 1, 1, 3, 1, 3, 1], &mut wanted);
-    let told = |n, room| reference::turn_map(8, n, 3, &grid, &mut vec![9; room]).map_err(|e| (e.number, e.place)).err();
-    let order = [told(0, 9), told(2, 9), told(1, LENGTH), told(2, LENGTH)] == [(1, 0), (2, 0), (3, 64), (15, 0)].map(Some);
-    read.is_ok() && expected.is_ok() && size == Ok((3, 2)) && turned == wanted && order
-}
-
 /// What does not hold, if anything.
 pub fn failing() -> Option<String> {
     let failed = EXAMPLES.iter().position(|e| !e.holds(search_all)).map(|i| format!("example {i}"));
@@ -302,6 +257,5 @@ pub fn failing() -> Option<String> {
         .or((!numbers_hold()).then(|| "the numbers of files".to_string()))
         .or((!trials_hold()).then(|| "the trials on record".to_string()))
         .or((!reports_hold()).then(|| "the reports to a session".to_string()))
-        .or((!turnings_hold()).then(|| "the turnings".to_string()))
         .or((position((3, 2)) != 98).then(|| "positions".to_string()))
 }

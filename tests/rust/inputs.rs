@@ -18,9 +18,6 @@ pub struct Case {
     pub cell: usize,
     pub side: usize,
     pub at: usize,
-    /// A turning, and the one after it.
-    pub turning: u32,
-    pub next: u32,
     pub grid: Vec<u8>,
     pub directions: Vec<u8>,
     pub faults: Vec<Fault>,
@@ -29,7 +26,6 @@ pub struct Case {
     pub down: Vec<u8>,
     pub file: Vec<u8>,
     pub out: Vec<u8>,
-    pub turned: Vec<u8>,
     /// The session that a call is handed or gives, and the report.
     pub session: Option<Session>,
     pub failing: bool,
@@ -51,9 +47,6 @@ const EDGES: [usize; 7] = [0, 127, 128, 16_383, 16_384, 2_097_151, 2_097_152];
 
 /// Trials that no file has, at the edges of what four and five bytes hold.
 const TOO_MANY: [u32; 8] = [2_097_152, 2_097_153, 1 << 24, (1 << 28) - 1, 1 << 28, 1 << 31, (1 << 31) + 1, u32::MAX];
-
-/// Numbers that no turning has. Some have the low bits of one.
-const BAD_TURNINGS: [u32; 8] = [8, 9, 15, 16, 257, (1 << 16) + 2, (1 << 31) + 5, u32::MAX];
 
 /// The bytes of no number: cut, with the third top bit set, or not in the shortest form.
 const NO_NUMBERS: [&[u8]; 14] = [
@@ -94,9 +87,6 @@ const PLAN_DAMAGES: [Damage; 10] = [
     Maker::lost_direction,
     Maker::turn_direction,
 ];
-
-/// Damages of directions without a grid.
-const LONE_DAMAGES: [Damage; 5] = [Maker::bad_size, Maker::other_size, Maker::bad_length, Maker::bad_direction, Maker::lost_direction];
 
 /// Damages of a session's size, grid and directions, whose lengths are fixed.
 const SESSION_DAMAGES: [Damage; 9] = [
@@ -499,7 +489,7 @@ impl Maker {
     fn bad_length(&mut self, case: &mut Case) {
         let length = self.pick(&BAD_LENGTHS);
         let words = usize::from(!case.places.is_empty());
-        let bytes = [&mut case.grid, &mut case.directions, &mut case.across, &mut case.down, &mut case.turned];
+        let bytes = [&mut case.grid, &mut case.directions, &mut case.across, &mut case.down];
         let mut used: Vec<&mut Vec<u8>> = bytes.into_iter().filter(|b| !b.is_empty()).collect();
         match self.below(used.len() + words) {
             chosen if chosen < used.len() => used[chosen].resize(length, 0),
@@ -518,35 +508,24 @@ impl Maker {
     /// Changes the byte at some position to one of the given.
     fn change(&mut self, case: &mut Case, buffer: fn(&mut Case) -> &mut Vec<u8>, bytes: &[u8]) {
         let (place, byte) = (self.place(case), self.pick(bytes));
-        set(buffer(case), place, byte);
+        if let Some(old) = buffer(case).get_mut(place) {
+            *old = byte;
+        }
     }
 
     fn bad_mark(&mut self, case: &mut Case) {
         self.change(case, |c| &mut c.grid, &[0, 1, 2, 3, 255]);
     }
 
-    /// A position that is not inner: a spare, a corner, or one outside the array.
-    fn outside(&mut self, case: &Case) -> usize {
+    /// Marks as dead a position that is not inner: a spare, a corner, or one outside the array.
+    fn dead_outside(&mut self, case: &mut Case) {
         let (n, m) = (case.n.min(30), case.m.min(30));
         let (x, y) = (self.below(n + 1), self.below(m + 1));
         let places = [(0, y), (n + 1, y), (x, 0), (x, m + 1), (0, 0), (0, m + 1), (n + 1, 0), (n + 1, m + 1), (x, 31), (31, y)];
-        position(self.pick(&places))
-    }
-
-    /// Marks as dead a position that is not inner.
-    fn dead_outside(&mut self, case: &mut Case) {
-        let place = self.outside(case);
-        set(&mut case.grid, place, DEAD);
-    }
-
-    fn mark_outside(&mut self, case: &mut Case) {
-        let (place, mark) = (self.outside(case), self.pick(&[0, 1, 2, 255]));
-        set(&mut case.grid, place, mark);
-    }
-
-    fn direction_outside(&mut self, case: &mut Case) {
-        let (place, direction) = (self.outside(case), self.pick(&[1, 2, 3, 4, 5, 255]));
-        set(&mut case.directions, place, direction);
+        let place = position(self.pick(&places));
+        if let Some(mark) = case.grid.get_mut(place) {
+            *mark = DEAD;
+        }
     }
 
     fn turn_health(&mut self, case: &mut Case) {
@@ -750,56 +729,6 @@ impl Maker {
     fn directed_healthy(&mut self, array: Array) -> Case {
         let case = self.healthy(array);
         self.directed(case)
-    }
-
-    /// A size to be turned: mostly small, or any, and often square, a single cell, a line of 30 or the largest.
-    fn turned_array(&mut self) -> Array {
-        let most = self.pick(&[4, 8, 8, 30]);
-        let (rows, columns) = (1 + self.below(most), 1 + self.below(most));
-        let (rows, columns) = match self.below(16) {
-            0 => self.pick(&[(1, 1), (1, 30), (30, 1), (30, 30)]),
-            1 | 2 => (rows, rows),
-            _ => (rows, columns),
-        };
-        Array { rows, columns }
-    }
-
-    /// The number of a turning, or sometimes of none.
-    fn turning(&mut self) -> u32 {
-        if self.one_in(8) { self.pick(&BAD_TURNINGS) } else { self.below(8) as u32 }
-    }
-
-    /// Adds a turning, with room for what is turned, and another turning to be made of that.
-    fn with_turning(&mut self, case: &mut Case) {
-        case.turning = self.turning();
-        case.next = self.below(8) as u32;
-        case.turned = self.noise(LENGTH).to_vec();
-    }
-
-    pub fn for_turned_map(&mut self) -> Case {
-        let array = self.turned_array();
-        let mut case = self.scattered(array);
-        if self.one_in(4) {
-            self.any_faults(array, &mut case);
-        }
-        self.with_turning(&mut case);
-        self.spoil(&mut case, 4, &MAP_DAMAGES);
-        self.spoil(&mut case, 16, &[Maker::mark_outside]);
-        case
-    }
-
-    pub fn for_turned_plan(&mut self) -> Case {
-        let array = self.turned_array();
-        let mut case = self.any_directions(array);
-        self.with_turning(&mut case);
-        self.spoil(&mut case, 4, &LONE_DAMAGES);
-        self.spoil(&mut case, 16, &[Maker::direction_outside]);
-        case
-    }
-
-    /// Two turnings, each of which may be none.
-    pub fn for_turnings(&mut self) -> Case {
-        Case { turning: self.turning(), next: self.turning(), ..Case::default() }
     }
 
     pub fn for_placing(&mut self) -> Case {
@@ -1207,7 +1136,8 @@ impl Maker {
     }
 
     /// Directions at any inner positions.
-    fn any_directions(&mut self, array: Array) -> Case {
+    fn any_directions(&mut self) -> Case {
+        let array = self.array(512, 4);
         let mut case = Case { n: array.rows, m: array.columns, directions: vec![0; LENGTH], ..Case::default() };
         let share = self.pick(&[1, 2, 4, 16]);
         for c in array.inner_cells() {
@@ -1219,8 +1149,8 @@ impl Maker {
     }
 
     pub fn for_plan_file(&mut self) -> Case {
-        let array = self.array(512, 4);
-        let mut case = self.any_directions(array);
+        let mut case = self.any_directions();
+        let array = Array { rows: case.n, columns: case.m };
         case.file = self.plan_file(array, reference::plan_records(array, &case.directions));
         case.directions = self.noise(LENGTH).to_vec();
         self.spoil(&mut case, 16, &[Maker::bad_length]);
@@ -1253,13 +1183,13 @@ impl Maker {
     }
 
     pub fn for_plan_writer(&mut self) -> Case {
-        let array = self.array(512, 4);
-        let mut case = self.any_directions(array);
+        let mut case = self.any_directions();
+        let array = Array { rows: case.n, columns: case.m };
         let trials = self.trials_on_record();
         let needed = reference::plan_file_of(array, &reference::plan_records(array, &case.directions), trials as usize).len();
         case.out = self.room(needed);
         case.trials = if self.one_in(8) { self.pick(&TOO_MANY) } else { trials };
-        self.spoil(&mut case, 4, &LONE_DAMAGES);
+        self.spoil(&mut case, 4, &[Maker::bad_size, Maker::other_size, Maker::bad_length, Maker::bad_direction, Maker::lost_direction]);
         case
     }
 
@@ -1314,13 +1244,6 @@ impl Maker {
 fn inner_faults(case: &Case) -> Vec<usize> {
     let array = Array { rows: case.n, columns: case.m };
     array.inner_cells().map(position).filter(|&p| is_faulty(case.grid[p])).collect()
-}
-
-/// Puts a byte at a position, where the buffer has it.
-fn set(buffer: &mut [u8], place: usize, byte: u8) {
-    if let Some(old) = buffer.get_mut(place) {
-        *old = byte;
-    }
 }
 
 /// Makes the spares faulty to which open outward paths of the outermost of these faults lead, except where a fault's own path,

@@ -3,7 +3,7 @@
 use crate::Buffers;
 use crate::inputs::{Case, ENOUGH, Maker};
 use crate::reference::{self, Array, Decision, HIGHEST, Planner, decide, search_all, settle_and_search};
-use chantspruce::{Reason, Turning, flat};
+use chantspruce::{Reason, flat};
 
 /// The values of an answer, with 0 for those that it does not have.
 type Values = [usize; 4];
@@ -72,12 +72,6 @@ const STOPS_AT_255: u32 = 150;
 const STOPS_AT_0: u32 = 151;
 const NOT_SOUND: u32 = 152;
 
-/// Kinds of answers about turnings: N and M are exchanged; the answer is a turning, whose number is added; the number of a
-/// refusal is added, and the number of the turning is wrong too.
-const EXCHANGED: u32 = 153;
-const TURNING: u32 = 160;
-const NO_TURNING: u32 = 170;
-
 /// Added to the kind of an outcome of the quick and of the exact planner where there is an inner fault: the quick one settles
 /// none of them, some or all.
 /// Each is a multiple of the first, which is above all kinds that have no addition.
@@ -127,9 +121,6 @@ pub fn kind_name(kind: u32) -> String {
         STOPS_AT_255 => "failing, a counter stops at 255".to_string(),
         STOPS_AT_0 => "recovering, a counter stops at 0".to_string(),
         NOT_SOUND => "a session that is not sound".to_string(),
-        EXCHANGED => "accepted, N and M exchanged".to_string(),
-        160..=167 => format!("turning {}", kind - TURNING),
-        171..=174 => format!("refused {}, no turning either", kind - NO_TURNING),
         DEAD.. => format!("{}, dead", kind_name(kind - DEAD)),
         IN_TRIALS.. => format!("{}, in the trials", kind_name(kind - IN_TRIALS)),
         ALL_SETTLED.. => format!("{}, all settled", kind_name(kind - ALL_SETTLED)),
@@ -289,21 +280,6 @@ fn paths_length(case: &Case) -> usize {
     reference::file_of(array, &reference::plan_records(array, &case.directions)).len()
 }
 
-/// The kind of a turned map's or plan's answer: accepted ones by N and M, refusals also by the last test.
-fn by_turned(answer: &Answer, after: &Case) -> u32 {
-    match answer.number {
-        0 if answer.values[..2] == [after.n, after.m] => 0,
-        0 => EXCHANGED,
-        number @ 1..=4 if after.turning > 7 => NO_TURNING + number,
-        number => number,
-    }
-}
-
-/// The kind of an answer that is a turning.
-fn by_turning(answer: &Answer, _: &Case) -> u32 {
-    if answer.number == 0 { TURNING + answer.values[0] as u32 } else { answer.number }
-}
-
 /// The kind of a map file's answer: refusals in the second list apart from those in the first.
 fn by_map_file(answer: &Answer, after: &Case) -> u32 {
     let Some(second) = second_part(&after.file) else {
@@ -353,7 +329,7 @@ fn never(_: &Operation, _: u32, _: &Case) -> bool {
 /// Of an operation that reads a grid.
 fn in_grid(operation: &Operation, kind: u32, before: &Case) -> bool {
     let has_dead = before.grid.contains(&reference::DEAD);
-    if !has_dead || matches!(verdict_of(kind), 0 | EXCHANGED | REPAIRED | SPENT) {
+    if !has_dead || matches!(verdict_of(kind), 0 | REPAIRED | SPENT) {
         return has_dead;
     }
     let mut ordinary = before.clone();
@@ -524,14 +500,6 @@ fn written(a: flat::Written) -> Answer {
     Answer { number: a.number, place: a.place, second: a.second, values: [a.length, 0, 0, 0] }
 }
 
-fn turned_to(a: flat::TurnedTo) -> Answer {
-    Answer { number: a.number, place: a.place, second: a.second, values: [a.rows, a.columns, 0, 0] }
-}
-
-fn turning_number(a: flat::TurningNumber) -> Answer {
-    Answer { number: a.number, place: a.place, second: a.second, values: [a.turning as usize, 0, 0, 0] }
-}
-
 /// The kinds of the quick planner and of a run with it. Where all inner faults are settled there is no trial.
 const QUICK_KINDS: [u32; 19] = [
     REPAIRED,
@@ -574,7 +542,7 @@ const EXACT_KINDS: [u32; 15] = [
     DEAD + 3,
 ];
 
-pub const OPERATIONS: [Operation; 29] = [
+pub const OPERATIONS: [Operation; 25] = [
     CHECK_PLAN,
     CHECK_FAULT_LIST,
     PLAN_REPAIR,
@@ -600,10 +568,6 @@ pub const OPERATIONS: [Operation; 29] = [
     REPORT_PROCESSOR,
     LIST_OF_REPORTS,
     PREVIEW_PROCESSOR,
-    TURN_MAP,
-    TURN_PLAN,
-    INVERT_TURNING,
-    COMPOSE_TURNINGS,
 ];
 
 const CHECK_PLAN: Operation = Operation {
@@ -1197,133 +1161,4 @@ fn preview_said(c: &Case, b: &mut Buffers) -> Answer {
 fn left(after: &chantspruce::Session, place: usize) -> (u8, [Vec<u8>; 4]) {
     let counters = [&after.south, &after.north, &after.east, &after.west];
     (after.directions[place], counters.map(|counters| counters.to_vec()))
-}
-
-/// A turned map. Its values are N and M afterwards, and what `with_more_turnings` adds.
-const TURN_MAP: Operation = Operation {
-    name: "turn_map",
-    seed: 26,
-    make: Maker::for_turned_map,
-    reference: |c| turned_told(reference::turn_map(c.turning, c.n, c.m, &c.grid, &mut c.turned)),
-    flat: |c, b| {
-        let turn: Turn = |by, n, m, from, to| turned_to(flat::turn_map(by, n, m, from, to));
-        let others = [INVERT_TURNING.flat, COMPOSE_TURNINGS.flat].map(|ask| ask(c, b));
-        with_more_turnings(turn, c, others, b.grid.lend(), b.turned.lend())
-    },
-    safe: |c, b| {
-        let turn: Turn = |by, n, m, from, to| match Turning::of(by) {
-            Some(by) => turned_said(chantspruce::turn_map(by, n, m, from, to)),
-            None => turned_said(flat::turn_map(by, n, m, from, to).answer()),
-        };
-        let others = [INVERT_TURNING.safe, COMPOSE_TURNINGS.safe].map(|ask| ask(c, b));
-        with_more_turnings(turn, c, others, b.grid.lend(), b.turned.lend())
-    },
-    kind: by_turned,
-    dead: in_grid,
-    kinds: &[
-        0,
-        EXCHANGED,
-        1,
-        2,
-        3,
-        15,
-        NO_TURNING + 1,
-        NO_TURNING + 2,
-        NO_TURNING + 3,
-        DEAD,
-        DEAD + EXCHANGED,
-        DEAD + 3,
-        DEAD + NO_TURNING + 3,
-    ],
-    sized: true,
-};
-
-/// The same of a plan.
-const TURN_PLAN: Operation = Operation {
-    name: "turn_plan",
-    seed: 27,
-    make: Maker::for_turned_plan,
-    reference: |c| turned_told(reference::turn_plan(c.turning, c.n, c.m, &c.directions, &mut c.turned)),
-    flat: |c, b| {
-        let turn: Turn = |by, n, m, from, to| turned_to(flat::turn_plan(by, n, m, from, to));
-        let others = [INVERT_TURNING.flat, COMPOSE_TURNINGS.flat].map(|ask| ask(c, b));
-        with_more_turnings(turn, c, others, b.directions.lend(), b.turned.lend())
-    },
-    safe: |c, b| {
-        let turn: Turn = |by, n, m, from, to| match Turning::of(by) {
-            Some(by) => turned_said(chantspruce::turn_plan(by, n, m, from, to)),
-            None => turned_said(flat::turn_plan(by, n, m, from, to).answer()),
-        };
-        let others = [INVERT_TURNING.safe, COMPOSE_TURNINGS.safe].map(|ask| ask(c, b));
-        with_more_turnings(turn, c, others, b.directions.lend(), b.turned.lend())
-    },
-    kind: by_turned,
-    dead: never,
-    kinds: &[0, EXCHANGED, 1, 2, 4, 15, NO_TURNING + 1, NO_TURNING + 2, NO_TURNING + 4],
-    sized: true,
-};
-
-/// All answers that are a turning or refuse one.
-const TURNING_KINDS: [u32; 9] = [15, TURNING, TURNING + 1, TURNING + 2, TURNING + 3, TURNING + 4, TURNING + 5, TURNING + 6, TURNING + 7];
-
-const INVERT_TURNING: Operation = Operation {
-    name: "invert_turning",
-    seed: 28,
-    make: Maker::for_turnings,
-    reference: |c| told(reference::invert_turning(c.turning), |inverse| [inverse as usize, 0, 0, 0]),
-    flat: |c, _| turning_number(flat::invert_turning(c.turning)),
-    safe: |c, _| {
-        let inverse = Turning::of(c.turning).map(Turning::inverse);
-        said(inverse.map_or_else(|| flat::invert_turning(c.turning).answer(), Ok), |inverse| [inverse as usize, 0, 0, 0])
-    },
-    kind: by_turning,
-    dead: never,
-    kinds: &TURNING_KINDS,
-    sized: false,
-};
-
-const COMPOSE_TURNINGS: Operation = Operation {
-    name: "compose_turnings",
-    seed: 29,
-    make: Maker::for_turnings,
-    reference: |c| told(reference::compose_turnings(c.turning, c.next), |both| [both as usize, 0, 0, 0]),
-    flat: |c, _| turning_number(flat::compose_turnings(c.turning, c.next)),
-    safe: |c, _| {
-        let both = Turning::of(c.turning).zip(Turning::of(c.next)).map(|(first, second)| first.then(second));
-        said(both.map_or_else(|| flat::compose_turnings(c.turning, c.next).answer(), Ok), |both| [both as usize, 0, 0, 0])
-    },
-    kind: by_turning,
-    dead: never,
-    kinds: &TURNING_KINDS,
-    sized: false,
-};
-
-fn turned_told(result: Result<Array, reference::Refusal>) -> Answer {
-    told(result, |array| [array.rows, array.columns, 1, 1])
-}
-
-fn turned_said(result: Result<chantspruce::Turned, chantspruce::Refusal>) -> Answer {
-    said(result, |size| [size.rows, size.columns, 0, 0])
-}
-
-/// A call that turns a map or a plan: the turning, N, M, the buffer that is read and the one that is written.
-type Turn = fn(u32, usize, usize, &[u8], &mut [u8]) -> Answer;
-
-/// Makes the call and, where it is accepted, three more. The inverse has to restore N, M and all bytes; the next turning, of
-/// what is turned, has to make what both make in one call. Whether they do is added to the values.
-fn with_more_turnings(turn: Turn, c: &Case, [inverse, both]: [Answer; 2], from: &[u8], to: &mut [u8]) -> Answer {
-    let answer = turn(c.turning, c.n, c.m, from, to);
-    if answer.number != 0 {
-        return answer;
-    }
-    let [n, m, ..] = answer.values;
-    let made = |by: u32, n: usize, m: usize, from: &[u8]| {
-        let mut to = [9; reference::LENGTH];
-        (turn(by, n, m, from, &mut to), to)
-    };
-    let (size, bytes) = made(inverse.values[0] as u32, n, m, to);
-    let restores = size == Answer { values: [c.n, c.m, 0, 0], ..answer } && bytes == *from;
-    let twice = made(c.next, n, m, to);
-    let agrees = twice.0.number == 0 && twice == made(both.values[0] as u32, c.n, c.m, from);
-    Answer { values: [n, m, restores.into(), agrees.into()], ..answer }
 }

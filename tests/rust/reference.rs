@@ -1,6 +1,5 @@
 //! The operations once more, as plainly as documents 01 and 02 and docs/DECISIONS.md put them, for the comparison with the library.
-//! Nothing here is taken from the library: paths are lists of cells, links run over a map of ports, and turnings are made of
-//! quarter turns and swaps.
+//! Nothing here is taken from the library: paths are lists of cells, and links run over a map of ports.
 
 use std::collections::BTreeSet;
 
@@ -165,15 +164,6 @@ fn test_directions(array: Array, grid: &[u8], directions: &[u8]) -> Result<(), R
     let is_fault = |c: Cell, p: usize| array.is_inner(c) && is_faulty(grid[p]);
     let wrong = |c: Cell, p: usize| if is_fault(c, p) { !(1..=4).contains(&directions[p]) } else { directions[p] != 0 };
     lowest(wrong).map_or(Ok(()), |p| refuse(4, p))
-}
-
-/// The tests 1, 2 and 4 of directions without a grid; `others` are the lengths of the buffers besides them.
-fn test_lone_directions(n: usize, m: usize, directions: &[u8], others: &[usize]) -> Result<Array, Refusal> {
-    let array = test_size(n, m)?;
-    test_lengths(&[directions.len()])?;
-    test_lengths(others)?;
-    let wrong = |c: Cell, p: usize| directions[p] > 4 || (directions[p] != 0 && !array.is_inner(c));
-    lowest(wrong).map_or(Ok(array), |p| refuse(4, p))
 }
 
 #[derive(Clone, Copy, PartialEq, Eq)]
@@ -931,113 +921,6 @@ fn count_links(plan: &Planned, grid: &[u8], places: &[u16], track: &Track) -> us
     links
 }
 
-// Turnings.
-
-/// What turnings are made of.
-#[derive(Clone, Copy)]
-enum Move {
-    /// A quarter turn to the right.
-    Quarter,
-    /// Left and right change places.
-    Swap,
-}
-
-use Move::{Quarter, Swap};
-
-/// The moves of each turning, by its number.
-const TURNINGS: [&[Move]; 8] = [
-    &[],
-    &[Quarter],
-    &[Quarter, Quarter],
-    &[Quarter, Quarter, Quarter],
-    &[Swap, Quarter, Quarter],
-    &[Swap],
-    &[Quarter, Swap],
-    &[Swap, Quarter],
-];
-
-fn test_turning(turning: u32) -> Result<&'static [Move], Refusal> {
-    TURNINGS.get(turning as usize).map_or_else(|| refuse(15, 0), |&moves| Ok(moves))
-}
-
-/// The array after these moves, and where one of its cells comes to stand.
-fn moved(moves: &[Move], array: Array, c: Cell) -> (Array, Cell) {
-    moves.iter().fold((array, c), |(array, (x, y)), next| match next {
-        Quarter => (Array { rows: array.columns, columns: array.rows }, (y, array.rows + 1 - x)),
-        Swap => (array, (x, array.columns + 1 - y)),
-    })
-}
-
-/// Puts each byte of an array, spares and corners among them, where the moves bring it, and `outside` everywhere else.
-fn scatter(moves: &[Move], array: Array, from: &[u8], to: &mut [u8], outside: u8) -> Array {
-    to.fill(outside);
-    for c in array.cells() {
-        to[position(moved(moves, array, c).1)] = from[position(c)];
-    }
-    moved(moves, array, (0, 0)).0
-}
-
-/// Writes the turned map and gives the array afterwards.
-pub fn turn_map(turning: u32, n: usize, m: usize, grid: &[u8], turned: &mut [u8]) -> Result<Array, Refusal> {
-    let array = test_map(n, m, grid, &[turned.len()])?;
-    Ok(scatter(test_turning(turning)?, array, grid, turned, NO_PROCESSOR))
-}
-
-/// One step from a cell.
-fn step((x, y): Cell, direction: Direction) -> Cell {
-    match direction {
-        South => (x + 1, y),
-        North => (x - 1, y),
-        East => (x, y + 1),
-        West => (x, y - 1),
-    }
-}
-
-/// The same of a plan: both ends of the first step of each path are moved, and its direction is then from the one to the other.
-pub fn turn_plan(turning: u32, n: usize, m: usize, directions: &[u8], turned: &mut [u8]) -> Result<Array, Refusal> {
-    let array = test_lone_directions(n, m, directions, &[turned.len()])?;
-    let moves = test_turning(turning)?;
-    turned.fill(0);
-    for [x, y, direction] in plan_records(array, directions) {
-        let ends = [(x, y), step((x, y), DIRECTIONS[direction - 1])];
-        let [start, end] = ends.map(|c| moved(moves, array, c).1);
-        turned[position(start)] = DIRECTIONS.into_iter().find(|&d| step(start, d) == end).map_or(0, |d| d as u8);
-    }
-    Ok(moved(moves, array, (0, 0)).0)
-}
-
-/// The rows `abc` and `def` after these turnings, one after the other, as a buffer by position. No two turnings make the same
-/// of them.
-pub fn letters_after(turnings: &[u32]) -> [u8; LENGTH] {
-    let mut array = Array { rows: 2, columns: 3 };
-    let mut sheet = [0; LENGTH];
-    array.inner_cells().zip(b"abcdef").for_each(|(c, &letter)| sheet[position(c)] = letter);
-    for &turning in turnings {
-        let before = sheet;
-        array = scatter(TURNINGS[turning as usize], array, &before, &mut sheet, 0);
-    }
-    sheet
-}
-
-fn turning_that(does: impl Fn(u32) -> bool) -> u32 {
-    (0..8).find(|&turning| does(turning)).expect("one of the eight")
-}
-
-/// The turning that brings the letters back.
-pub fn invert_turning(turning: u32) -> Result<u32, Refusal> {
-    test_turning(turning)?;
-    let wanted = letters_after(&[]);
-    Ok(turning_that(|other| letters_after(&[turning, other]) == wanted))
-}
-
-/// The turning that makes of the letters what both make.
-pub fn compose_turnings(first: u32, second: u32) -> Result<u32, Refusal> {
-    test_turning(first)?;
-    test_turning(second)?;
-    let wanted = letters_after(&[first, second]);
-    Ok(turning_that(|one| letters_after(&[one]) == wanted))
-}
-
 // Files.
 
 /// The value of the number at an offset, and the offset after it.
@@ -1235,7 +1118,11 @@ pub fn write_map(n: usize, m: usize, grid: &[u8], out: &mut [u8]) -> Result<usiz
 }
 
 pub fn write_plan(n: usize, m: usize, directions: &[u8], trials: u32, out: &mut [u8]) -> Result<usize, Refusal> {
-    let array = test_lone_directions(n, m, directions, &[])?;
+    let array = test_size(n, m)?;
+    test_lengths(&[directions.len()])?;
+    if let Some(p) = lowest(|c, p| directions[p] > 4 || (directions[p] != 0 && !array.is_inner(c))) {
+        return refuse(4, p);
+    }
     if trials > HIGHEST {
         return refuse(21, 0);
     }

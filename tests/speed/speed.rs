@@ -234,39 +234,6 @@ fn compare_reading() {
     );
 }
 
-/// A map of 40 faults and a plan of it, by each of the eight.
-fn compare_turnings() {
-    let grid = find_map(40, 1_000_000, |o| matches!(o, Outcome::Repaired(_)));
-    let mut directions = vec![0; LONG];
-    same::plan_repair(30, 30, &grid, &mut directions, 1_000_000).expect("a plan");
-    let (mut a, mut b) = (vec![5; LONG], vec![6; LONG]);
-    for (k, &t) in same::TURNS.iter().enumerate() {
-        let turning = chantspruce::Turning::ALL[k];
-        compare(
-            &format!("turn_map, 30 x 30, 40 faults, {turning:?}"),
-            200,
-            &mut || {
-                black_box(chantspruce::turn_map(black_box(turning), 30, 30, black_box(&grid), &mut a)).ok();
-            },
-            &mut || {
-                black_box(same::turn_map(black_box(t), 30, 30, black_box(&grid), &mut b)).ok();
-            },
-        );
-        assert!(a == b, "two turned maps");
-        compare(
-            &format!("turn_plan, 30 x 30, 40 faults, {turning:?}"),
-            200,
-            &mut || {
-                black_box(chantspruce::turn_plan(black_box(turning), 30, 30, black_box(&directions), &mut a)).ok();
-            },
-            &mut || {
-                black_box(same::turn_plan(black_box(t), 30, 30, black_box(&directions), &mut b)).ok();
-            },
-        );
-        assert!(a == b, "two turned plans");
-    }
-}
-
 fn compare_plan(faults: usize) {
     let grid = find_map(faults, 100_000, |o| matches!(o, Outcome::Repaired(_)));
     let mut directions = vec![0; LONG];
@@ -463,7 +430,6 @@ fn main() {
     compare_plan(50);
     compare_run(20);
     compare_session(40);
-    compare_turnings();
     for name in ["first", "large", "beyond", "spent"] {
         measure_listing(name);
     }

@@ -37,17 +37,14 @@ use Rattle.readers.proofs.Numbered.{file_numbered}
 use Rattle.writers.specs.declared.FileWritten.{FileWritten}
 use Rattle.writers.proofs.Numbered.{write_numbered, text_numbered}
 use Rattle.listing.specs.Listing.{listing}
-use Rattle.turnings.specs.declared.Turned.{Turned}
-use Rattle.turnings.specs.declared.TurningNumber.{TurningNumber}
-use Rattle.turnings.proofs.Numbered.{by_number_numbered, inverse_number, composed_number}
 use Rattle.sessions.specs.declared.Session.{Session}
 use Rattle.sessions.proofs.Numbered.{report_numbered}
 use Rattle.previews.specs.declared.Foretold.{Foretold}
 use Rattle.capi.specs.Flat.{flat_verdict, flat_started, flat_preview, flat_outcome, flat_decision}
 use Rattle.capi.specs.Flat.{flat_answer, run_of, flat_run, flat_link}
-use Rattle.capi.specs.Flat.{flat_number, flat_head, flat_plan_head, flat_length, flat_turned, flat_turning}
+use Rattle.capi.specs.Flat.{flat_number, flat_head, flat_plan_head, flat_length}
 use Rattle.capi.specs.Tells.{by_number, verdict_tells, link_tells, number_tells, head_tells, plan_head_tells, length_tells}
-use Rattle.capi.specs.Tells.{plan_tells, started_tells, preview_tells, turned_tells, turning_tells, Kept, AnswerKept, NothingLost}
+use Rattle.capi.specs.Tells.{plan_tells, started_tells, preview_tells, Kept, AnswerKept, NothingLost}
 use Rattle.array.specs.Tests as tests
 use Rattle.array.specs.declared.Verdict.TheVariants as verdict
 use Rattle.track.specs.Follower as links
@@ -62,10 +59,6 @@ use Rattle.readers.specs.declared.MapRead.TheVariants as map
 use Rattle.readers.proofs.Numbered as read
 use Rattle.writers.specs.Writing as writers
 use Rattle.writers.specs.declared.FileWritten.TheVariants as writer
-use Rattle.turnings.specs.Turnings as turnings
-use Rattle.turnings.specs.Numbers as numbered
-use Rattle.turnings.specs.declared.Turned.TheVariants as turned
-use Rattle.turnings.specs.declared.TurningNumber.TheVariants as turning
 
 -- a number from 1 on tells a refusal
 refused : (r : Refusal) (values : List ℕ) → Numbered (refuses_as r)
@@ -154,16 +147,6 @@ length_kept (writer.Refused r) h = record { numbered = h; same = refused r (0 �
 
 -- OPERATIONS
 
-turned_kept : (a : Turned) → Numbered (turnings.told a) → Kept turnings.told flat_turned turned_tells a
-unfolding flat_turned
-turned_kept (turned.Sizes n m) h = record { numbered = h; same = refl }
-turned_kept (turned.Refused r) h = record { numbered = h; same = refused r _ h }
-
-turning_kept : (a : TurningNumber) → Numbered (numbered.told_number a) → Kept numbered.told_number flat_turning turning_tells a
-unfolding flat_turning
-turning_kept (turning.Number k) h = record { numbered = h; same = refl }
-turning_kept (turning.Refused r) h = record { numbered = h; same = refused r _ h }
-
 places_kept : (n m : ℕ) (grid directions places : List ℕ)
     → Kept tests.told flat_verdict verdict_tells (place_cells n m grid directions places)
 unfolding place_cells
@@ -231,7 +214,4 @@ nothing_lost =
       by_start_session = λ n m grid directions. started_kept _ _ (plan_numbered n m _ grid directions).numbered;
       by_report_processor = λ s failing position. verdict_kept _ (report_numbered s failing position).numbered;
       by_preview_processor = λ s failing position. preview_kept _ _ (report_numbered s failing position).numbered;
-      by_turning = λ kind k n m b turned. turned_kept _ (by_number_numbered kind k n m b turned).numbered;
-      by_invert_turning = λ k. turning_kept _ (inverse_number k).numbered;
-      by_compose_turnings = λ j k. turning_kept _ (composed_number j k).numbered;
     }

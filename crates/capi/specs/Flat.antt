@@ -15,8 +15,6 @@ use Rattle.formats.specs.declared.Number.{Number}
 use Rattle.readers.specs.declared.FileRead.{FileRead}
 use Rattle.readers.specs.declared.MapRead.{MapRead}
 use Rattle.writers.specs.declared.FileWritten.{FileWritten}
-use Rattle.turnings.specs.declared.Turned.{Turned}
-use Rattle.turnings.specs.declared.TurningNumber.{TurningNumber}
 use Rattle.sessions.specs.declared.Session.{Session}
 use Rattle.previews.specs.declared.Foretold.{Foretold}
 use Rattle.capi.specs.declared.ChantspruceVerdict.{ChantspruceVerdict}
@@ -28,8 +26,6 @@ use Rattle.capi.specs.declared.ChantspruceNumber.{ChantspruceNumber}
 use Rattle.capi.specs.declared.ChantspruceHead.{ChantspruceHead}
 use Rattle.capi.specs.declared.ChantsprucePlanHead.{ChantsprucePlanHead}
 use Rattle.capi.specs.declared.ChantspruceLength.{ChantspruceLength}
-use Rattle.capi.specs.declared.ChantspruceTurned.{ChantspruceTurned}
-use Rattle.capi.specs.declared.ChantspruceTurning.{ChantspruceTurning}
 use Rattle.array.specs.declared.Verdict.TheVariants as verdict
 use Rattle.track.specs.declared.Followed.TheVariants as follow
 use Rattle.repair.specs.declared.Answer.TheVariants as answer
@@ -37,8 +33,6 @@ use Rattle.formats.specs.declared.Number.TheVariants as numbers
 use Rattle.readers.specs.declared.FileRead.TheVariants as reader
 use Rattle.readers.specs.declared.MapRead.TheVariants as map
 use Rattle.writers.specs.declared.FileWritten.TheVariants as writer
-use Rattle.turnings.specs.declared.Turned.TheVariants as turned
-use Rattle.turnings.specs.declared.TurningNumber.TheVariants as turning
 
 unfoldable pub flat_verdict : Verdict → ChantspruceVerdict
 flat_verdict verdict.Accepted = record { number = 0; place = 0; second = 0 }
@@ -131,14 +125,3 @@ unfoldable pub flat_length : FileWritten → ChantspruceLength
 flat_length (writer.Length k) = record { number = 0; place = 0; second = 0; length = k }
 flat_length (writer.Refused r) =
     record { number = r.number; place = r.place; second = r.second; length = 0 }
-
--- T-09. N and M afterwards; and the number of a turning.
-unfoldable pub flat_turned : Turned → ChantspruceTurned
-flat_turned (turned.Sizes n m) = record { number = 0; place = 0; second = 0; rows = n; columns = m }
-flat_turned (turned.Refused r) =
-    record { number = r.number; place = r.place; second = r.second; rows = 0; columns = 0 }
-
-unfoldable pub flat_turning : TurningNumber → ChantspruceTurning
-flat_turning (turning.Number k) = record { number = 0; place = 0; second = 0; turning = k }
-flat_turning (turning.Refused r) =
-    record { number = r.number; place = r.place; second = r.second; turning = 0 }

@@ -14,17 +14,14 @@ use Rattle.repair.specs.declared.Planner.TheVariants.{Trials, Quick, Exact}
 use Rattle.repair.specs.declared.Answer.{Answer}
 use Rattle.runs.specs.Run.{run_answer, run_links}
 use Rattle.formats.specs.Number.{number_at}
-use Rattle.formats.specs.declared.Kind.{Kind}
 use Rattle.readers.specs.Reading.{read_map, read_plan}
 use Rattle.writers.specs.Writing.{write_map, write_plan}
 use Rattle.listing.specs.Listing.{reported}
-use Rattle.turnings.specs.Turnings.{told}
-use Rattle.turnings.specs.Numbers.{turn_by_number, inverse_numbered, composed_numbered, told_number}
 use Rattle.sessions.specs.Session.{session_started, report_test}
 use Rattle.sessions.specs.declared.Session.{Session}
 use Rattle.previews.specs.Preview.{foretold}
 use Rattle.capi.specs.Flat.{flat_verdict, flat_started, flat_preview, flat_answer, run_of, flat_run, flat_link}
-use Rattle.capi.specs.Flat.{flat_number, flat_head, flat_plan_head, flat_length, flat_turned, flat_turning}
+use Rattle.capi.specs.Flat.{flat_number, flat_head, flat_plan_head, flat_length}
 use Rattle.capi.specs.declared.ChantspruceVerdict.{ChantspruceVerdict}
 use Rattle.capi.specs.declared.ChantspruceStarted.{ChantspruceStarted}
 use Rattle.capi.specs.declared.ChantsprucePreview.{ChantsprucePreview}
@@ -34,8 +31,6 @@ use Rattle.capi.specs.declared.ChantspruceNumber.{ChantspruceNumber}
 use Rattle.capi.specs.declared.ChantspruceHead.{ChantspruceHead}
 use Rattle.capi.specs.declared.ChantsprucePlanHead.{ChantsprucePlanHead}
 use Rattle.capi.specs.declared.ChantspruceLength.{ChantspruceLength}
-use Rattle.capi.specs.declared.ChantspruceTurned.{ChantspruceTurned}
-use Rattle.capi.specs.declared.ChantspruceTurning.{ChantspruceTurning}
 use Rattle.array.specs.declared.Verdict.{Verdict}
 use Rattle.array.specs.Tests as tests
 use Rattle.track.specs.Follower as links
@@ -84,12 +79,6 @@ plan_head_tells r = by_number r.number r.place r.second (r.rows ∷ r.columns �
 abbrev pub length_tells : ChantspruceLength → Told
 length_tells r = by_number r.number r.place r.second (r.length ∷ [])
 
-abbrev pub turned_tells : ChantspruceTurned → Told
-turned_tells r = by_number r.number r.place r.second (r.rows ∷ r.columns ∷ [])
-
-abbrev pub turning_tells : ChantspruceTurning → Told
-turning_tells r = by_number r.number r.place r.second (r.turning ∷ [])
-
 -- an answer x, what it tells, its flat struct, and what that tells: the same, with a number of the documents where it is a refusal
 pub record Kept {A B : Type 0} (told : A → Told) (flat : A → B) (tells : B → Told) (x : A) : Type 0 where
   pub numbered : Numbered (told x)
@@ -128,6 +117,3 @@ pub record NothingLost : Type 0 where
   pub by_preview_processor : (s : Session) (failing : Bool) (position : ℕ)
       → Kept tests.told (λ (v : Verdict). flat_preview v (foretold s failing position)) preview_tells
       (report_test s failing position)
-  pub by_turning : (kind : Kind) (k n m : ℕ) (b turned : List ℕ) → Kept told flat_turned turned_tells (turn_by_number kind k n m b turned)
-  pub by_invert_turning : (k : ℕ) → Kept told_number flat_turning turning_tells (inverse_numbered k)
-  pub by_compose_turnings : (j k : ℕ) → Kept told_number flat_turning turning_tells (composed_numbered j k)

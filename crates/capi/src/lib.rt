@@ -13,13 +13,11 @@ ghost use Rattle.runs.specs.Run.{given};
 ghost use Rattle.readers.specs.Reading.{read_map, read_plan};
 ghost use Rattle.writers.specs.Writing.{write_map, write_plan};
 ghost use Rattle.listing.specs.Listing.{reported};
-ghost use Rattle.turnings.specs.Numbers.{turn_map_numbered, map_turned_numbered, turn_plan_numbered, plan_turned_numbered};
-ghost use Rattle.turnings.specs.Numbers.{inverse_numbered, composed_numbered};
 ghost use Rattle.sessions.specs.Session.{session_started, report_test, session_reported};
 ghost use Rattle.previews.specs.Preview.{foretold};
 ghost use Rattle.capi.specs.Flat.{flat_verdict, flat_started, flat_preview, planned_as};
 ghost use Rattle.capi.specs.Flat.{flat_outcome, flat_decision, flat_answer, RanFlat, flat_link};
-ghost use Rattle.capi.specs.Flat.{flat_number, flat_head, flat_plan_head, flat_length, flat_turned, flat_turning};
+ghost use Rattle.capi.specs.Flat.{flat_number, flat_head, flat_plan_head, flat_length};
 
 use array::Verdict;
 use exact::Decision;
@@ -30,7 +28,6 @@ use repair::{Answer, Planner};
 use sessions::Session;
 use track::Followed;
 use trials::Outcome;
-use turnings::{Turned, TurningNumber};
 use writers::FileWritten;
 
 // Every struct begins with `number` (0 where the call is accepted, else the number of the refusal), `place` and `second`. The values
@@ -138,27 +135,6 @@ pub struct ChantspruceLength {
     pub place: usize,
     pub second: usize,
     pub length: usize,
-}
-
-// A turned map or plan: N and M afterwards.
-#[repr(C)]
-#[derive(Drop)]
-pub struct ChantspruceTurned {
-    pub number: u32,
-    pub place: usize,
-    pub second: usize,
-    pub rows: usize,
-    pub columns: usize,
-}
-
-// The inverse of a turning and two in a row: the number of the turning.
-#[repr(C)]
-#[derive(Drop)]
-pub struct ChantspruceTurning {
-    pub number: u32,
-    pub place: usize,
-    pub second: usize,
-    pub turning: u32,
 }
 
 // Inner parts: the answers as flat structs.
@@ -336,46 +312,6 @@ fn flat_length(a: FileWritten) -> ChantspruceLength
             place: e.place,
             second: e.second,
             length: 0,
-        },
-    }
-}
-
-fn flat_turned(a: Turned) -> ChantspruceTurned
-    ensures { result ≡ flat_turned a }
-{
-    match a {
-        Turned::Sizes(n, m) => ChantspruceTurned {
-            number: 0,
-            place: 0,
-            second: 0,
-            rows: n,
-            columns: m,
-        },
-        Turned::Refused(e) => ChantspruceTurned {
-            number: e.number as u32,
-            place: e.place,
-            second: e.second,
-            rows: 0,
-            columns: 0,
-        },
-    }
-}
-
-fn flat_turning(a: TurningNumber) -> ChantspruceTurning
-    ensures { result ≡ flat_turning a }
-{
-    match a {
-        TurningNumber::Number(turning) => ChantspruceTurning {
-            number: 0,
-            place: 0,
-            second: 0,
-            turning,
-        },
-        TurningNumber::Refused(e) => ChantspruceTurning {
-            number: e.number as u32,
-            place: e.place,
-            second: e.second,
-            turning: 0,
         },
     }
 }
@@ -780,47 +716,4 @@ pub extern "C" fn chantspruce_preview_processor(
         (foretold s.now failing position) }
 {
     flat_preview(*s, failing, position)
-}
-
-// A turning is a number here, since C has no enum that holds only its own values.
-#[unsafe(no_mangle)]
-pub extern "C" fn chantspruce_turn_map(
-    turning: u32,
-    n: usize,
-    m: usize,
-    grid: &[u8],
-    turned: &mut [u8],
-) -> ChantspruceTurned
-    ensures answer { result ≡ flat_turned (turn_map_numbered turning n m grid.now turned.old) }
-    ensures buffer { turned.new ≡ map_turned_numbered turning n m grid.now turned.old }
-{
-    flat_turned(turnings::turn_map_numbered(turning, n, m, grid, turned))
-}
-
-#[unsafe(no_mangle)]
-pub extern "C" fn chantspruce_turn_plan(
-    turning: u32,
-    n: usize,
-    m: usize,
-    directions: &[u8],
-    turned: &mut [u8],
-) -> ChantspruceTurned
-    ensures answer { result ≡ flat_turned (turn_plan_numbered turning n m directions.now turned.old) }
-    ensures buffer { turned.new ≡ plan_turned_numbered turning n m directions.now turned.old }
-{
-    flat_turned(turnings::turn_plan_numbered(turning, n, m, directions, turned))
-}
-
-#[unsafe(no_mangle)]
-pub extern "C" fn chantspruce_invert_turning(turning: u32) -> ChantspruceTurning
-    ensures { result ≡ flat_turning (inverse_numbered turning) }
-{
-    flat_turning(turnings::inverse_numbered(turning))
-}
-
-#[unsafe(no_mangle)]
-pub extern "C" fn chantspruce_compose_turnings(first: u32, second: u32) -> ChantspruceTurning
-    ensures { result ≡ flat_turning (composed_numbered first second) }
-{
-    flat_turning(turnings::compose_numbered(first, second))
 }

@@ -38,7 +38,7 @@ fn copy(to: &mut [u8], from: &[u8], count: usize) {
 }
 
 // A refusal, with whether every element that the call may write still has its mark.
-pub fn refuse(r: Refusal, kept: bool) {
+fn refuse(r: Refusal, kept: bool) {
     show::say_refusal(r);
     show::say_kept(kept);
 }

@@ -4,7 +4,6 @@ mod faults;
 mod reports;
 mod settings;
 mod show;
-mod turning;
 
 use crate::settings::Setup;
 use libc::STDIN_FILENO;
@@ -338,10 +337,6 @@ fn obey_other(
     show::say(b" -> ");
     if words::is_word(line, 0, b"read") | words::is_word(line, 0, b"write") {
         return obey_file(line, s, grid, directions, file);
-    }
-    if turning::is_line(line) {
-        turning::obey(line, s, grid, directions);
-        return s;
     }
     obey_call(line, s, grid, directions, across, down, file);
     s

@@ -13,8 +13,7 @@ use Rattle.paths.specs.Path.{member, path_length, path, meet, near_miss, differe
 use Rattle.paths.proofs.Ways.{Way, south, north, east, west}
 use Rattle.paths.proofs.Meeting.{share_elim, Box, on_path_box, box_on_path}
 use Rattle.paths.proofs.Clashes.{neither_clear}
-use Rattle.turns.specs.Turn.{turn, same, rows_of, columns_of, place_of, way_of}
-use Rattle.turns.specs.declared.Turn.{Turn}
+use Rattle.turns.specs.Turn.{Turn, turn, same, rows_of, columns_of, place_of, way_of}
 use Rattle.turns.proofs.Places.{inner_within, sizes_high}
 use Rattle.turns.proofs.Generators.{lawful}
 use Rattle.turns.proofs.Turned.{path_turned, clear_turned}

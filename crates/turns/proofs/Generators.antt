@@ -11,8 +11,7 @@ use Rattle.array.proofs.Bools.{bool_ext}
 use Rattle.array.proofs.Places.{Inner}
 use Rattle.paths.specs.Path.{ahead, path_length, near_miss, difference, south_north, east_west, from_rim}
 use Rattle.paths.proofs.Ways.{Way, south, north, east, west}
-use Rattle.turns.specs.Turn.{turn, same, rows_of, columns_of, place_of, way_of}
-use Rattle.turns.specs.declared.Turn.{Turn}
+use Rattle.turns.specs.Turn.{Turn, turn, same, rows_of, columns_of, place_of, way_of}
 use Rattle.turns.proofs.Places.{inner_within, sizes_high, place_then, place_read, place_after}
 use Rattle.turns.proofs.Carrying.{Carries, carries_then}
 
@@ -50,7 +49,7 @@ crossed false true true d = or_comm true d
 crossed false true false d = or_comm true d
 crossed false false c d = or_comm c d ∙ ap (λ (x : Bool). d || x) (or_comm false c)
 
-pub eqb_same : (a b c d : ℕ) → (a ≡ b → c ≡ d) → (c ≡ d → a ≡ b) → eqb a b ≡ eqb c d
+eqb_same : (a b c d : ℕ) → (a ≡ b → c ≡ d) → (c ≡ d → a ≡ b) → eqb a b ≡ eqb c d
 eqb_same a b c d f g = bool_ext _ _ (λ h. eq-eqb c d (f (eqb-true a b h))) (λ h. eq-eqb a b (g (eqb-true c d h)))
 
 ltb_same : (a b c d : ℕ) → (a < b → c < d) → (c < d → a < b) → ltb a b ≡ ltb c d

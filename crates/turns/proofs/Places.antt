@@ -8,8 +8,7 @@ use borrow.Author.Tests.{leb-true}
 use Rattle.array.specs.Place.{position, row, column}
 use Rattle.array.proofs.Bools.{and_true}
 use Rattle.array.proofs.Places.{Inner, position_read}
-use Rattle.turns.specs.Turn.{rows_of, columns_of, counted, row_of, column_of, place_of, within}
-use Rattle.turns.specs.declared.Turn.{Turn}
+use Rattle.turns.specs.Turn.{Turn, rows_of, columns_of, counted, row_of, column_of, place_of, within}
 
 -- p is in the rows 0 to N + 1 and the columns 0 to M + 1
 pub record Within (n m p : ℕ) : Type 0 where

@@ -1,18 +1,16 @@
--- Paths turn along with the array; two turnings in a row are a third.
+-- Paths turn along with the array.
 -- Assumes nothing.
 use Prim.Native.Nat.{ℕ, ◌≤◌}
 use native.Mathlib.Omega.{arith}
 use Rattle.array.proofs.Places.{inner_between}
 use Rattle.paths.proofs.Ways.{Way, south, north, east, west, start_inner, start_way}
 use Rattle.turns.specs.Turn.{rows_of, columns_of}
-use Rattle.turns.specs.Theorems.{PathsTurn, TurningLaws}
+use Rattle.turns.specs.Theorems.{PathsTurn}
 use Rattle.turns.proofs.Places.{within_holds, sizes_high}
 use Rattle.turns.proofs.Generators.{lawful}
-use Rattle.turns.proofs.Group.{within_true, then_assoc, then_inverse, inverse_then, rows_then, columns_then, place_twice, way_then}
-use Rattle.turns.proofs.Buffers.{turned_twice, turned_back}
-use Rattle.turns.proofs.Turned.{path_turned, open_turned, meet_turned}
+use Rattle.turns.proofs.Turned.{path_turned, meet_turned}
 
-pub way_between : {d : ℕ} → Way d → (1 ≤ d) × (d ≤ 4)
+way_between : {d : ℕ} → Way d → (1 ≤ d) × (d ≤ 4)
 way_between south = omega arith
 way_between north = omega arith
 way_between east = omega arith
@@ -37,25 +35,9 @@ paths_turn t n m =
           };
       on_path = λ p d q s h.
           path_turned t n m s.rows s.columns p d (start_inner s) (start_way s) q (within_holds n m q h);
-      openness = λ grid p d s. open_turned t n m s.rows s.columns grid p d (start_inner s) (start_way s);
       meeting = λ p d q e s r.
           meet_turned t n m s.rows s.columns p d q e (start_inner s) (start_inner r) (start_way s) (start_way r);
       nearness = λ p d q e s r.
           (lawful t n m s.rows s.columns).near p d q e (start_inner s) (start_inner r) (start_way s) (start_way r);
       rim = λ p d s. (lawful t n m s.rows s.columns).rim p d (start_inner s) (start_way s);
-    }
-
-pub turning_laws : TurningLaws
-turning_laws =
-    record {
-      grouped = then_assoc;
-      undone = then_inverse;
-      undoes = inverse_then;
-      rows = rows_then;
-      columns = columns_then;
-      places = λ t u n m p hn hm w. place_twice t n m hn hm p (within_holds n m p w) u;
-      ways = way_then;
-      buffers = λ t u n m f g h beyond b hn hm e. turned_twice t n m hn hm u f g h beyond b (λ p w. e p (within_true w));
-      restored = λ t n m f g beyond b hn hm l back off.
-          turned_back n m hn hm beyond b l off t f g (λ p w. back p (within_true w));
     }

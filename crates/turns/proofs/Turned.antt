@@ -1,35 +1,18 @@
--- Each of the eight turnings keeps paths, whether they are open, and whether two of them meet or are clear of each other.
+-- Each of the eight turnings keeps paths, and whether two of them meet or are clear of each other.
 -- Assumes nothing.
-use Prim.Native.Nat.{ℕ, zero, suc, ◌+◌, ◌-◌, ◌≤◌, ◌<◌}
-use mathlib.Core.Path.{◌≡◌, refl, sym, ap, ap₂, subst, ◌∙◌}
-use mathlib.Core.Bool.{Bool, true, cond, not, ◌&&◌, ◌||◌}
-use mathlib.Core.List.{List}
+use Prim.Native.Nat.{ℕ, ◌≤◌, ◌<◌}
+use mathlib.Core.Path.{◌≡◌, sym, ap, ap₂, subst, ◌∙◌}
+use mathlib.Core.Bool.{Bool, true, cond}
 use native.Mathlib.Omega.{arith}
-use Rattle.array.specs.Buffer.{span}
-use Rattle.array.specs.Map.{faulty}
 use Rattle.array.proofs.Bools.{bool_ext}
 use Rattle.array.proofs.Places.{Inner}
-use Rattle.paths.specs.Path.{Clear, Meet, NearMiss, is_clear, clash, clear, member, ahead, path_length, path, none_faulty, is_free, is_open, meet}
+use Rattle.paths.specs.Path.{Clear, Meet, NearMiss, is_clear, clash, clear, member, ahead, path_length, path, meet}
 use Rattle.paths.proofs.Ways.{Way}
-use Rattle.paths.proofs.Walking.{path_long, open_start}
 use Rattle.paths.proofs.Meeting.{member_elim, member_intro, share_elim, share_intro}
-use Rattle.turns.specs.Turn.{rows_of, columns_of, place_of, way_of}
-use Rattle.turns.specs.declared.Turn.{Turn}
-use Rattle.turns.specs.Turned.{turned_grid}
-use Rattle.turns.proofs.Places.{Within, inner_within}
+use Rattle.turns.specs.Turn.{Turn, rows_of, columns_of, place_of, way_of}
+use Rattle.turns.proofs.Places.{Within}
 use Rattle.turns.proofs.Carrying.{Carries, ahead_within}
 use Rattle.turns.proofs.Generators.{lawful}
-use Rattle.turns.proofs.Marks.{faulty_turned, dead_turned}
-
--- the marks along two walks are the same
-none_same : (f g : ℕ → ℕ) (grid grid' : List ℕ) (i k : ℕ)
-    → ((j : ℕ) → i ≤ j → j < i + k → faulty grid' (g j) ≡ faulty grid (f j))
-    → none_faulty grid' (span g i k) ≡ none_faulty grid (span f i k)
-unfolding none_faulty span
-none_same f g grid grid' i zero h = refl
-none_same f g grid grid' i (suc k) h =
-    ap₂ (λ (a b : Bool). not a && b) (h i (omega arith) (omega arith))
-    (none_same f g grid grid' (suc i) k (λ j a b. h j (omega arith) (omega arith)))
 
 module _ (t : Turn) (n m : ℕ) (hn : n ≤ 30) (hm : m ≤ 30) where
   abbrev n' : ℕ
@@ -85,27 +68,6 @@ module _ (t : Turn) (n m : ℕ) (hn : n ≤ 30) (hm : m ≤ 30) where
         let x = image (put q) h in
         subst (λ (z : ℕ). member z (path n m p d) ≡ true) (carried.apart x.q q x.inside b x.is) x.on)
         (on_image q)
-
-  module _ (grid : List ℕ) (p d : ℕ) (i : Inner n m p) (w : Way d) where
-    free_turned : is_free n' m' (turned_grid t n m grid) (put p) (way d) ≡ is_free n m grid p d
-    free_turned =
-        let l = path_long n m p d hn hm w i in
-        let e = carried.long p d i w in
-        open_start n' m' (turned_grid t n m grid) (put p) (way d) (omega (arith, l.0, e))
-        ∙ ap (λ (k : ℕ). none_faulty (turned_grid t n m grid) (span (ahead (put p) (way d)) 1 (k - 1))) e
-        ∙ none_same (ahead p d) (ahead (put p) (way d)) grid (turned_grid t n m grid) 1 (path_length n m p d - 1)
-        (λ j a b.
-        let k : j < path_length n m p d = omega (arith, l.0, b) in
-        ap (faulty (turned_grid t n m grid)) (carried.steps p d j i w k)
-        ∙ faulty_turned t n m hn hm (ahead p d j) (ahead_within n m p d j hn hm i w k) grid)
-        ∙ sym (open_start n m grid p d (omega (arith, l.0)))
-
-    pub open_turned : is_open n' m' (turned_grid t n m grid) (put p) (way d) ≡ is_open n m grid p d
-    unfolding is_open
-    open_turned =
-        let a = dead_turned t n m hn hm p (inner_within i) grid in
-        let b = carried.rim p d i w in
-        λ z. (not (a z) || b z) && free_turned z
 
   module _ (p d q e : ℕ) (i : Inner n m p) (j : Inner n m q) (w : Way d) (v : Way e) where
     pub meet_turned : meet n' m' (put p) (way d) (put q) (way e) ≡ meet n m p d q e

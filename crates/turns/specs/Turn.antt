@@ -1,11 +1,16 @@
 -- The eight turnings and mirrorings of an array: what each does to sizes, rows and columns, positions and directions.
 -- Assumes nothing.
-use Rattle.std.specs.Prelude.{ℕ, ◌+◌, ◌-◌, Bool, false, cond, not, ◌&&◌, leb}
+use Rattle.std.specs.Prelude.{ℕ, ◌+◌, ◌-◌, Bool, false, cond, ◌&&◌, leb}
 use Rattle.array.specs.Place.{position, row, column}
 use Rattle.paths.specs.Path.{by_direction}
-use Rattle.turns.specs.declared.Turn.{Turn}
 
--- one of the eight, by its three choices
+-- one of the eight, by three choices: rows and columns exchanged or not, then the rows counted from the other end or not,
+-- then the columns
+pub record Turn : Type 0 where
+  pub exchange : Bool
+  pub upend : Bool
+  pub mirror : Bool
+
 abbrev pub turn : Bool → Bool → Bool → Turn
 turn a b c = record { exchange = a; upend = b; mirror = c }
 
@@ -51,18 +56,3 @@ way_of t d = mirrored t.mirror (upended t.upend (exchanged t.exchange d))
 -- the rows 0 to N + 1 and the columns 0 to M + 1: the processors and the four corners
 abbrev pub within : ℕ → ℕ → ℕ → Bool
 within n m p = leb (row p) (n + 1) && leb (column p) (m + 1)
-
--- either, and not both
-abbrev pub either : Bool → Bool → Bool
-either a b = cond a (not b) b
-
--- t and then u, as one of the eight
-abbrev pub then : Turn → Turn → Turn
-then t u =
-    turn (either t.exchange u.exchange) (either (cond u.exchange t.mirror t.upend) u.upend)
-    (either (cond u.exchange t.upend t.mirror) u.mirror)
-
--- what undoes t
-abbrev pub inverse : Turn → Turn
-inverse t =
-    turn t.exchange (cond t.exchange t.mirror t.upend) (cond t.exchange t.upend t.mirror)

@@ -10,10 +10,10 @@ use native.Mathlib.Omega.{arith}
 use lib.Dec.{ltb, leb, eqb}
 use lib.ListN.{length, get_or, drop}
 use lib.Seq.{sets, sets-eq}
-use borrow.Author.Tests.{leb-true, eqb-true, ltb-false, lt-ltb, le-ltb}
+use borrow.Author.Tests.{leb-true, eqb-true, ltb-false, lt-ltb, le-ltb, eq-eqb, ne_eqb}
 use Rattle.array.specs.Place.{inner, processor}
 use Rattle.array.specs.Buffer.{long, all_long}
-use Rattle.array.specs.Tests.{or_else, first_in, refusal}
+use Rattle.array.specs.Tests.{or_else, refuse, first_in, refusal}
 use Rattle.array.specs.Map.{dead_mark, allowed, size_test, length_test, mark_test, map_tests}
 use Rattle.array.specs.declared.Refusal.{Refusal}
 use Rattle.array.specs.declared.Verdict.{Verdict}
@@ -24,7 +24,7 @@ use Rattle.array.proofs.Scans.{scan_each, buffer_scan}
 use Rattle.formats.specs.Records.{file_bytes}
 use Rattle.formats.specs.declared.Kind.{Kind}
 use Rattle.formats.specs.declared.Kind.TheVariants.{Map, Plan}
-use Rattle.writers.specs.Writing.{path_test, buffer_tests, buffer_test, trials_test, room_test, put, write_file}
+use Rattle.writers.specs.Writing.{path_test, buffer_test, trials_test, room_test, put, write_file}
 use Rattle.writers.specs.declared.FileWritten.TheVariants.{Length, Refused}
 use Rattle.array.specs.declared.Verdict.TheVariants as verdict
 
@@ -33,36 +33,12 @@ abbrev pub element_test : Kind → ℕ → ℕ → ℕ → ℕ → Verdict
 element_test Map n m p v = mark_test n m p v
 element_test Plan n m p v = path_test n m p v
 
-pub tests_by :
-    (kind : Kind) (n m : ℕ) (right : Bool) (b : List ℕ) →
-    buffer_tests kind n m right b ≡ or_else (size_test n m) (or_else (length_test right) (first_in (element_test kind n m) b))
-unfolding map_tests
-tests_by Map n m right b = refl
-tests_by Plan n m right b = refl
-
 pub tests_are :
     (kind : Kind) (n m : ℕ) (b : List ℕ) →
     buffer_test kind n m b ≡ or_else (size_test n m) (or_else (length_test (all_long (b ∷ []))) (first_in (element_test kind n m) b))
-unfolding buffer_test
-tests_are kind n m b = tests_by kind n m (all_long (b ∷ [])) b
-
--- an accepted buffer
-pub record AcceptedBuffer (kind : Kind) (n m : ℕ) (right : Bool) (b : List ℕ) : Type 0 where
-  pub sizes : Sized n m
-  pub lengths : right ≡ true
-  pub scanned : first_in (element_test kind n m) b ≡ verdict.Accepted
-
-pub buffer_accepted :
-    (kind : Kind) (n m : ℕ) (right : Bool) (b : List ℕ) → buffer_tests kind n m right b ≡ verdict.Accepted →
-    AcceptedBuffer kind n m right b
-buffer_accepted kind n m right b h =
-    let x = both_accepted _ _ (sym (tests_by kind n m right b) ∙ h) in
-    let y = both_accepted _ _ x.1 in
-    record {
-      sizes = sized n m (accepted_not _ 1 0 0 x.0);
-      lengths = accepted_not _ 2 0 0 y.0;
-      scanned = y.1;
-    }
+unfolding buffer_test map_tests
+tests_are Map n m b = refl
+tests_are Plan n m b = refl
 
 -- an accepted element
 mark_low : (n m p v : ℕ) → allowed n m p v ≡ true → v ≤ 4
@@ -88,24 +64,25 @@ pub record Passed (kind : Kind) (n m : ℕ) (b : List ℕ) : Type 0 where
   pub small : (p : ℕ) → p < length b → get_or b p 0 < 128
 
 pub passed : (kind : Kind) (n m : ℕ) (b : List ℕ) → buffer_test kind n m b ≡ verdict.Accepted → Passed kind n m b
-unfolding buffer_test
 passed kind n m b h =
-    let x = buffer_accepted kind n m (long b && true) b h in
+    let x = both_accepted _ _ (sym (tests_are kind n m b) ∙ h) in
+    let y = both_accepted _ _ x.1 in
     record {
-      sizes = x.sizes;
-      is_long = eqb-true _ _ (sym (and_one (long b)) ∙ x.lengths);
-      scanned = x.scanned;
+      sizes = sized n m (accepted_not _ 1 0 0 x.0);
+      is_long = eqb-true _ _ (sym (and_one (long b)) ∙ accepted_not _ 2 0 0 y.0);
+      scanned = y.1;
       small = λ p l.
-          let e = scan_each (buffer_scan (element_test kind n m) b) x.scanned p l in
+          let e = scan_each (buffer_scan (element_test kind n m) b) y.1 p l in
           let q : get_or b p 0 ≤ 4 = element_low kind n m p (get_or b p 0) e in
           omega arith;
     }
 
--- the tests of the buffer that a writer is lent, as they are answered by its length
-pub tested_alone :
-    (kind : Kind) (n m : ℕ) (b : List ℕ) {v : Verdict} → v ≡ buffer_tests kind n m (long b) b → v ≡ buffer_test kind n m b
-unfolding buffer_test
-tested_alone kind n m b e = e ∙ ap (λ (r : Bool). buffer_tests kind n m r b) (sym (and_one (long b)))
+-- the test of a buffer's length
+pub short_refuses : (b : List ℕ) (later : Verdict) → (length b ≡ 1024 → ⊥) → refuse 2 0 0 ≡ or_else (length_test (all_long (b ∷ []))) later
+short_refuses b later h = rw (ne_eqb _ _ h)
+
+pub long_passes : (b : List ℕ) {v later : Verdict} → length b ≡ 1024 → v ≡ later → v ≡ or_else (length_test (all_long (b ∷ []))) later
+long_passes b h e = e ∙ rw (eq-eqb _ _ h)
 
 -- the test of a direction at p, where a callee answered as r whether p is inner
 pub path_tested :

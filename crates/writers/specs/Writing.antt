@@ -1,11 +1,11 @@
 -- Document 01, "Files" and "Numbers returned", and document 02, T-06: what a writer answers, and the file buffer
 -- afterwards.
 -- Assumes nothing.
-use Rattle.std.specs.Prelude.{ℕ, Bool, not, ◌&&◌, ◌||◌, List, [], ◌∷◌, ◌++◌, ltb, eqb, length, drop}
+use Rattle.std.specs.Prelude.{ℕ, not, ◌&&◌, ◌||◌, List, [], ◌∷◌, ◌++◌, ltb, eqb, length, drop}
 use Rattle.array.specs.Place.{inner}
 use Rattle.array.specs.Tests.{or_else, refuse_if, first_in, Told, accepts, refuses_as}
 use Rattle.array.specs.Buffer.{all_long}
-use Rattle.array.specs.Map.{size_test, length_test, map_tests}
+use Rattle.array.specs.Map.{size_test, length_test, map_test}
 use Rattle.array.specs.declared.Verdict.{Verdict}
 use Rattle.formats.specs.Records.{file_bytes}
 use Rattle.formats.specs.declared.Kind.{Kind}
@@ -23,15 +23,11 @@ told (Refused r) = refuses_as r
 abbrev pub path_test : ℕ → ℕ → ℕ → ℕ → Verdict
 path_test n m p d = refuse_if (ltb 4 d || (not (inner n m p) && not (eqb d 0))) 4 p 0
 
--- 1 to 3 of a map; 1, 2 and 4 of a plan. `right` says that every lent buffer has 1,024 elements.
-abbrev pub buffer_tests : Kind → ℕ → ℕ → Bool → List ℕ → Verdict
-buffer_tests Map n m right grid = map_tests n m right grid
-buffer_tests Plan n m right directions =
-    or_else (size_test n m) (or_else (length_test right) (first_in (path_test n m) directions))
-
--- the same of a writer, which is lent this buffer and that of the file's bytes
+-- 1 to 3 of a map; 1, 2 and 4 of a plan
 unfoldable pub buffer_test : Kind → ℕ → ℕ → List ℕ → Verdict
-buffer_test kind n m b = buffer_tests kind n m (all_long (b ∷ [])) b
+buffer_test Map n m grid = map_test n m (grid ∷ []) grid
+buffer_test Plan n m directions =
+    or_else (size_test n m) (or_else (length_test (all_long (directions ∷ []))) (first_in (path_test n m) directions))
 
 -- T-06. 21: the trials to be written exceed the highest number of a file. A map has none.
 abbrev pub trials_test : Kind → ℕ → Verdict

@@ -1,10 +1,10 @@
 // The writers of map and plan files.
-ghost use Rattle.std.specs.Prelude.{◌≡◌, true, ◌<◌, ◌≤◌, length};
+ghost use Rattle.std.specs.Prelude.{◌≡◌, ◌<◌, ◌≤◌, length};
 ghost use Rattle.array.specs.Tests.{or_else, first_in};
 ghost use Rattle.array.specs.declared.Verdict.TheVariants.{Accepted};
 ghost use Rattle.formats.specs.Parts.{Room, Wrote};
 ghost use Rattle.formats.specs.Records.{record_bytes, record_count, list_bytes, file_bytes};
-ghost use Rattle.writers.specs.Writing.{told, path_test, buffer_tests, buffer_test, trials_test, room_test, put, write_file, write_map, write_plan};
+ghost use Rattle.writers.specs.Writing.{told, path_test, buffer_test, trials_test, room_test, put, write_file, write_map, write_plan};
 ghost use Rattle.writers.specs.Parts.{pair_bytes, value_bytes, element_bytes, records_of, records_length, list_length, dead_count, dead_list};
 ghost use Rattle.writers.specs.Parts.{dead_length, rest_length, part_bytes, room_for, Fitting, FittingParts};
 ghost use Rattle.formats.specs.declared.Kind.TheVariants.{Plan};
@@ -47,10 +47,9 @@ fn check_paths(n: usize, m: usize, directions: &[u8]) -> Verdict
     Verdict::Accepted
 }
 
-// Tests 1, 2 and 4 of a plan without a grid, where `right` says that every lent buffer has 1,024 elements.
-fn check_without_grid(n: usize, m: usize, right: bool, directions: &[u8]) -> Verdict
-    requires { right ≡ true → length directions.now ≡ 1024 }
-    ensures { result ≡ buffer_tests Plan n m right directions.now }
+// Tests 1, 2 and 4 of a plan without a grid.
+fn check_without_grid(n: usize, m: usize, directions: &[u8]) -> Verdict
+    ensures { result ≡ buffer_test Plan n m directions.now }
 {
     if !(array::is_size(n) & array::is_size(m)) {
         return Verdict::Refused(Refusal {
@@ -59,7 +58,7 @@ fn check_without_grid(n: usize, m: usize, right: bool, directions: &[u8]) -> Ver
             second: 0,
         });
     }
-    if !right {
+    if directions.len() != 1024 {
         return Verdict::Refused(Refusal {
             number: 2,
             place: 0,
@@ -69,14 +68,13 @@ fn check_without_grid(n: usize, m: usize, right: bool, directions: &[u8]) -> Ver
     check_paths(n, m, directions)
 }
 
-// Tests 1 to 3 of a map; 1, 2 and 4 of a plan. `right` says that every lent buffer has 1,024 elements.
-pub fn check_buffer(kind: Kind, n: usize, m: usize, right: bool, b: &[u8]) -> Verdict
-    requires { right ≡ true → length b.now ≡ 1024 }
-    ensures { result ≡ buffer_tests kind n m right b.now }
+// Tests 1 to 3 of a map; 1, 2 and 4 of a plan.
+fn check_buffer(kind: Kind, n: usize, m: usize, b: &[u8]) -> Verdict
+    ensures { result ≡ buffer_test kind n m b.now }
 {
     match kind {
-        Kind::Map => array::check_map(n, m, right, b),
-        Kind::Plan => check_without_grid(n, m, right, b),
+        Kind::Map => array::check_map(n, m, b.len() == 1024, b),
+        Kind::Plan => check_without_grid(n, m, b),
     }
 }
 
@@ -114,7 +112,7 @@ fn check_room(needed: usize, room: usize) -> Verdict
 }
 
 // The refusal of the first test, else what the later one says.
-pub fn or_else(first: Verdict, later: Verdict) -> Verdict
+fn or_else(first: Verdict, later: Verdict) -> Verdict
     ensures { result ≡ or_else first later }
 {
     match first {
@@ -341,7 +339,7 @@ fn write_file(
 ) -> FileWritten
     ensures { (result, out.new) ≡ write_file kind n m b.now trials out.old }
 {
-    let v = check_buffer(kind, n, m, b.len() == 1024, b);
+    let v = check_buffer(kind, n, m, b);
     if let Verdict::Refused(r) = v {
         return FileWritten::Refused(r);
     }

@@ -1,10 +1,11 @@
 -- `writers::check_without_grid` meets its contract: the tests in order.
 -- Assumes nothing.
-use mathlib.Core.Path.{◌≡◌, refl}
+use mathlib.Core.Path.{◌≡◌}
 use mathlib.Core.Bool.{not, ◌&&◌}
-use borrow.Author.Tests.{not-false}
 use Rattle.array.specs.Place.{size}
 use Rattle.array.proofs.Verdicts.{test_refuses, test_passes}
+use Rattle.writers.specs.Writing.{buffer_test}
+use Rattle.writers.proofs.Accepted.{short_refuses, long_passes}
 use borrow.Author.Rules.{rules}
 use Rattle.writers.proofs.check_without_grid.Statement.{statement}
 use Rattle.writers.proofs.check_without_grid.Tie as tie
@@ -23,19 +24,24 @@ is-size-requires-2 : tie.Need-is-size-requires-2
 is-size-requires-2 c κs = search rules
 
 returns : tie.Need-returns
+unfolding buffer_test
 returns c = test_refuses (sizes c.before) _ c.if1.true
 
 returns-2 : tie.Need-returns-2
+unfolding buffer_test
 returns-2 c =
-    test_passes (sizes c.before.before) _ _ _ c.before.if1.false (test_refuses refl _ c.if2.true)
+    test_passes (sizes c.before.before) _ _ _ c.before.if1.false
+    (short_refuses c.before.before.before.before.before.args.directions.now _ c.if2.true)
 
 check-paths-requires : tie.Need-check-paths-requires
-check-paths-requires c κs = c.before.before.before.before.before.requires (not-false _ c.if2.false)
+check-paths-requires c κs = search rules
 
 returns-3 : tie.Need-returns-3
+unfolding buffer_test
 returns-3 c =
     test_passes (sizes c.before.before.before) _ _ _ c.before.before.if1.false
-    (test_passes refl _ _ _ c.before.if2.false c.check-paths.ensures)
+    (long_passes c.before.before.before.before.before.before.args.directions.now c.before.if2.false
+    c.check-paths.ensures)
 
 pub check-without-grid-spec : {M : Type 1} → statement M
 check-without-grid-spec =

@@ -1,19 +1,13 @@
 -- `writers::write_file` meets its contract: the tests of the buffer, then the rest.
 -- Assumes nothing.
-use mathlib.Core.Path.{◌≡◌, sym, ◌∙◌}
-use borrow.Author.Tests.{eqb-true}
-use Rattle.writers.specs.Writing.{buffer_test}
-use Rattle.writers.proofs.Accepted.{tested_alone, file_refused, file_accepted}
+use mathlib.Core.Path.{sym, ◌∙◌}
+use Rattle.writers.proofs.Accepted.{file_refused, file_accepted}
 use borrow.Author.Rules.{rules}
 use Rattle.writers.proofs.write_file.Statement.{statement}
 use Rattle.writers.proofs.write_file.Tie as tie
 
--- what the tests answer
-tested : (c : tie.After-check-buffer) → let a = c.before.before.before.args in c.check-buffer.result ≡ buffer_test a.kind a.n a.m a.b.now
-tested c = let a = c.before.before.before.args in tested_alone a.kind a.n a.m a.b.now c.check-buffer.ensures
-
 check-buffer-requires : tie.Need-check-buffer-requires
-check-buffer-requires c κs = λ h. eqb-true _ _ h
+check-buffer-requires c κs = search rules
 
 enum-known-v : tie.Need-enum-known-v
 enum-known-v c = search rules
@@ -22,13 +16,13 @@ returns : tie.Need-returns
 returns c =
     let a = c.before.before.before.before.before.before.args in
     sym (file_refused a.kind a.n a.m a.b.now a.trials a.out.now _
-    (sym (tested c.before.before.before) ∙ c.before.v.given.1))
+    (sym c.before.before.before.check-buffer.ensures ∙ c.before.v.given.1))
 
 enum_told : tie.Need-enum-told
 enum_told c = search rules
 
 write-checked-requires : tie.Need-write-checked-requires
-write-checked-requires c κs = sym (tested c.before.before.before) ∙ c.before.enum_told.given.1
+write-checked-requires c κs = sym c.before.before.before.check-buffer.ensures ∙ c.before.enum_told.given.1
 
 same_length : tie.Need-same-length
 same_length c = search rules
@@ -38,7 +32,7 @@ returns-2 c =
     let a = c.before.before.before.before.before.before.before.before.before.args in
     c.before.before.write_checked.ensures
     ∙ sym (file_accepted a.kind a.n a.m a.b.now a.trials a.out.now
-    (sym (tested c.before.before.before.before.before.before)
+    (sym c.before.before.before.before.before.before.check-buffer.ensures
     ∙ c.before.before.before.before.enum_told.given.1))
 
 pub write-file-spec : {M : Type 1} → statement M
