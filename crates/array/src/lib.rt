@@ -4,7 +4,7 @@ ghost use Rattle.array.specs.Place.{size, inner_at, corner_at, processor_at, inn
 ghost use Rattle.array.specs.Map.{dead_mark, faulty_mark, inner_faulty, allowed_at, marks_test, map_tests};
 
 // The refusal of a call: the documents' number, the place and the second place.
-#[derive(Drop)]
+#[derive(Clone, Copy)]
 pub struct Refusal {
     pub number: u8,
     pub place: usize,
@@ -12,7 +12,7 @@ pub struct Refusal {
 }
 
 // What the tests of a call's arguments say.
-#[derive(Drop)]
+#[derive(Clone, Copy)]
 pub enum Verdict {
     Accepted,
     Refused(Refusal),

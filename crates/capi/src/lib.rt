@@ -35,7 +35,7 @@ use writers::FileWritten;
 
 // The plan check, placement, routing and reports.
 #[repr(C)]
-#[derive(Drop)]
+#[derive(Clone, Copy)]
 pub struct ChantspruceVerdict {
     pub number: u32,
     pub place: usize,
@@ -44,7 +44,7 @@ pub struct ChantspruceVerdict {
 
 // The start of a session: the session that reports are handed.
 #[repr(C)]
-#[derive(Drop)]
+#[derive(Clone, Copy)]
 pub struct ChantspruceStarted {
     pub number: u32,
     pub place: usize,
@@ -54,7 +54,7 @@ pub struct ChantspruceStarted {
 
 // The preview of a report: the direction that the processor would have, and all counters as they would be.
 #[repr(C)]
-#[derive(Drop)]
+#[derive(Clone, Copy)]
 pub struct ChantsprucePreview {
     pub number: u32,
     pub place: usize,
@@ -69,7 +69,7 @@ pub struct ChantsprucePreview {
 // The planners and the runs. `outcome` is 1 repaired, 2 beyond repair, 3 spent; `count` the trials, or the limit where it is
 // spent, and 0 from the exact planner, which counts none; `links` how many links a run found to reach their neighbour.
 #[repr(C)]
-#[derive(Drop)]
+#[derive(Clone, Copy)]
 pub struct ChantsprucePlan {
     pub number: u32,
     pub place: usize,
@@ -81,7 +81,7 @@ pub struct ChantsprucePlan {
 
 // The follower: the position entered, the port (W, E, N, S are 0 to 3), and the switches passed.
 #[repr(C)]
-#[derive(Drop)]
+#[derive(Clone, Copy)]
 pub struct ChantspruceLink {
     pub number: u32,
     pub place: usize,
@@ -93,7 +93,7 @@ pub struct ChantspruceLink {
 
 // The number reader: the value, and the offset after it.
 #[repr(C)]
-#[derive(Drop)]
+#[derive(Clone, Copy)]
 pub struct ChantspruceNumber {
     pub number: u32,
     pub place: usize,
@@ -104,7 +104,7 @@ pub struct ChantspruceNumber {
 
 // The map reader: N, M and the count of records.
 #[repr(C)]
-#[derive(Drop)]
+#[derive(Clone, Copy)]
 pub struct ChantspruceHead {
     pub number: u32,
     pub place: usize,
@@ -116,7 +116,7 @@ pub struct ChantspruceHead {
 
 // The plan reader: the same and T, the trials on record.
 #[repr(C)]
-#[derive(Drop)]
+#[derive(Clone, Copy)]
 pub struct ChantsprucePlanHead {
     pub number: u32,
     pub place: usize,
@@ -129,7 +129,7 @@ pub struct ChantsprucePlanHead {
 
 // The file writers and the listing: the length written.
 #[repr(C)]
-#[derive(Drop)]
+#[derive(Clone, Copy)]
 pub struct ChantspruceLength {
     pub number: u32,
     pub place: usize,

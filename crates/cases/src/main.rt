@@ -6,20 +6,22 @@ mod settings;
 mod show;
 
 use crate::settings::Setup;
-use libc::STDIN_FILENO;
 use repair::Planner;
 use sessions::Session;
 use words::Value;
 
+// The descriptor of standard input.
+const STDIN_FILENO: i32 = 0;
+
 // What later lines work on beside the buffers.
-#[derive(Drop)]
+#[derive(Clone, Copy)]
 struct Next {
     setup: Setup,
     held: Session,
 }
 
 // The lines that set something up.
-#[derive(Drop)]
+#[derive(Clone, Copy)]
 enum Setting {
     Size,
     Lengths,
@@ -32,7 +34,7 @@ enum Setting {
 }
 
 // The lines that call an operation without writing a file or reading one whole.
-#[derive(Drop)]
+#[derive(Clone, Copy)]
 enum Call {
     Check,
     Faults,
@@ -47,7 +49,7 @@ enum Call {
 }
 
 // The lines that read or write a file.
-#[derive(Drop)]
+#[derive(Clone, Copy)]
 enum FileCall {
     ReadMap,
     ReadPlan,

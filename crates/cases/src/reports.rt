@@ -8,7 +8,7 @@ use previews::Foretold;
 use sessions::Session;
 
 // The lines of a session.
-#[derive(Drop)]
+#[derive(Clone, Copy)]
 enum Kind {
     Start,
     Report,

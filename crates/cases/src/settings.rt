@@ -3,7 +3,7 @@ use crate::show;
 use words::Value;
 
 // N and M, with how many elements each buffer is lent, and the length of the file.
-#[derive(Drop)]
+#[derive(Clone, Copy)]
 pub struct Setup {
     pub n: usize,
     pub m: usize,
@@ -16,7 +16,7 @@ pub struct Setup {
 }
 
 // Elements of a buffer by their rows and columns, with the value to give them.
-#[derive(Drop)]
+#[derive(Clone, Copy)]
 struct Area {
     top: Value,
     bottom: Value,

@@ -1,9 +1,11 @@
 // What a call answers, as text on standard output.
 use array::{Refusal, Verdict};
-use libc::STDOUT_FILENO;
+
+// The descriptor of standard output.
+const STDOUT_FILENO: i32 = 1;
 
 // The buffers of bytes that a call may write.
-#[derive(Drop)]
+#[derive(Clone, Copy)]
 pub enum Shown {
     Grid,
     Directions,

@@ -1,6 +1,8 @@
 // What is counted, and how it is printed.
-use libc::STDOUT_FILENO;
 use second::buffers;
+
+// The descriptor of standard output.
+const STDOUT_FILENO: i32 = 1;
 
 pub const MAPS: usize = 0;
 

@@ -2,7 +2,7 @@
 use crate::{links, output, wafer};
 
 // What a layer draws. A path has a direction, a link the heading in which it leaves its cell.
-#[derive(Drop)]
+#[derive(Clone, Copy)]
 pub enum Layer {
     Labels,
     Tracks,

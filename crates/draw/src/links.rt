@@ -5,7 +5,7 @@
 use crate::{output, wafer};
 
 // How far a link is drawn: where it is on the lattice, and its heading.
-#[derive(Drop)]
+#[derive(Clone, Copy)]
 pub struct Walk {
     pub row: usize,
     pub column: usize,

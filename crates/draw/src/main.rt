@@ -6,10 +6,12 @@ mod wafer;
 mod words;
 
 use array::Refusal;
-use libc::STDIN_FILENO;
 use readers::{Head, MapRead};
 use repair::Answer;
 use trials::Outcome;
+
+// The descriptor of standard input.
+const STDIN_FILENO: i32 = 0;
 
 // The limit of trials.
 const LIMIT: u32 = 1000000;

@@ -1,5 +1,7 @@
 // Output, written to standard output piece by piece.
-use libc::STDOUT_FILENO;
+
+// The descriptor of standard output.
+const STDOUT_FILENO: i32 = 1;
 
 // Bytes as they stand.
 pub fn text(bytes: &[u8]) {

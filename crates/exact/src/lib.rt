@@ -21,7 +21,7 @@ ghost use Rattle.exact.specs.Inner.{Ready, Bettered, LeftBy, RowCovered, SomeCov
 use paths::CLEAR;
 
 // What the exact planner decides: there is a plan, or there is none.
-#[derive(Drop)]
+#[derive(Clone, Copy)]
 pub enum Decision {
     Repaired,
     Beyond,

@@ -12,7 +12,7 @@ use track::{Followed, Landing};
 
 // A port: of a processor (kind 0), an across switch (kind 1, SW2 in document 003) or a down switch (kind 2, SW1), by its row and
 // column, on a side (W, E, N, S are 0 to 3). A switch has the row and column of the processor that it is filed under.
-#[derive(Drop)]
+#[derive(Clone, Copy)]
 struct Port {
     kind: u8,
     row: usize,
@@ -21,14 +21,14 @@ struct Port {
 }
 
 // Where a stretch leads.
-#[derive(Drop)]
+#[derive(Clone, Copy)]
 enum Stretch {
     To(Port),
     Nothing,
 }
 
 // What is inside at the port by which a node is entered: the end of a link, a join to the port on a side, or nothing.
-#[derive(Drop)]
+#[derive(Clone, Copy)]
 enum Inside {
     Ends,
     On(u8),
@@ -36,7 +36,7 @@ enum Inside {
 }
 
 // A link followed so far: the port it goes on from, where it was last (a switch, or at first the cell's processor), and how many switches it has passed.
-#[derive(Drop)]
+#[derive(Clone, Copy)]
 struct Walk {
     port: Port,
     last: usize,
@@ -44,7 +44,7 @@ struct Walk {
 }
 
 // A link followed one node further.
-#[derive(Drop)]
+#[derive(Clone, Copy)]
 enum Step {
     Go(Walk),
     Done(Followed),

@@ -7,21 +7,21 @@ ghost use Rattle.formats.specs.Records.{recorded, first_list};
 use array::Refusal;
 
 // What reading a number answers: its value with the offset behind it, or the refusal.
-#[derive(Drop)]
+#[derive(Clone, Copy)]
 pub enum Number {
     Read(u32, usize),
     Refused(Refusal),
 }
 
 // A map file or a plan file.
-#[derive(Drop)]
+#[derive(Clone, Copy)]
 pub enum Kind {
     Map,
     Plan,
 }
 
 // The kinds of record: a fault that is not dead, a dead processor (T-04), or a path.
-#[derive(Drop)]
+#[derive(Clone, Copy)]
 pub enum Record {
     Fault,
     Dead,

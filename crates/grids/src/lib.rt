@@ -14,7 +14,7 @@ use array::{Refusal, Verdict};
 use writers::FileWritten;
 
 // What is wrong with a text. Lines and columns count from 1.
-#[derive(Drop)]
+#[derive(Clone, Copy)]
 pub enum Wrong {
     // No row.
     Empty,
@@ -41,28 +41,28 @@ pub enum Wrong {
 }
 
 // What reading a text answers: N and M, or what is wrong.
-#[derive(Drop)]
+#[derive(Clone, Copy)]
 pub enum TextRead {
     Grid(usize, usize),
     Wrong(Wrong),
 }
 
 // What is known after some lines: how many rows there were, and the first blank line after them, 0 if there is none.
-#[derive(Drop)]
+#[derive(Clone, Copy)]
 struct Seen {
     rows: usize,
     blank: usize,
 }
 
 // What a line leads to.
-#[derive(Drop)]
+#[derive(Clone, Copy)]
 enum Step {
     Next(Seen),
     Wrong(Wrong),
 }
 
 // What a test of the rows answers.
-#[derive(Drop)]
+#[derive(Clone, Copy)]
 enum Judged {
     Good,
     Wrong(Wrong),

@@ -7,10 +7,13 @@ ghost use Rattle.std.specs.Prelude.{◌≡◌};
 ghost use Rattle.history.specs.Held.{held_after};
 
 use array::{Refusal, Verdict};
-use libc::{STDIN_FILENO, STDOUT_FILENO};
 use previews::Foretold;
 use readers::{FileRead, Head, MapRead};
 use sessions::Session;
+
+// The descriptors of standard input and standard output.
+const STDIN_FILENO: i32 = 0;
+const STDOUT_FILENO: i32 = 1;
 
 // The descriptors of the two files.
 const MAP: i32 = 3;
@@ -21,7 +24,7 @@ const PLAN: i32 = 4;
 const NONE: usize = 1024;
 
 // What a line asks: that a processor fails, that one recovers, or what a failure would do.
-#[derive(Drop)]
+#[derive(Clone, Copy)]
 enum Asked {
     Fail,
     Recover,
@@ -29,7 +32,7 @@ enum Asked {
 }
 
 // A session after a line, and whether the line was a wrong one.
-#[derive(Drop)]
+#[derive(Clone, Copy)]
 struct Step {
     session: Session,
     wrong: bool,

@@ -2,8 +2,11 @@
 // than 4,096 bytes are read of either file. A longer one is never accepted: a map file has at most 2,046 bytes and a plan file at
 // most 2,707, so the first byte after its last part is among those that are read.
 use array::{Refusal, Verdict};
-use libc::{STDIN_FILENO, STDOUT_FILENO};
 use readers::{FileRead, Head, MapRead};
+
+// The descriptors of standard input and standard output.
+const STDIN_FILENO: i32 = 0;
+const STDOUT_FILENO: i32 = 1;
 
 // The descriptor of the plan file.
 const PLAN: i32 = 3;

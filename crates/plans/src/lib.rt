@@ -11,7 +11,7 @@ use array::{Refusal, Verdict};
 
 // An inner fault with its position and the direction of its path, laid out as in C, where a caller may lend a list of them.
 #[repr(C)]
-#[derive(Drop)]
+#[derive(Clone, Copy)]
 pub struct Fault {
     pub position: usize,
     pub direction: u8,

@@ -9,7 +9,7 @@ use array::Verdict;
 use sessions::Session;
 
 // The direction that the reported processor would have, and all counters as they would be; all 0 beside a refusal.
-#[derive(Drop)]
+#[derive(Clone, Copy)]
 pub struct Foretold {
     pub direction: u8,
     pub south: [u8; 1024],
@@ -19,7 +19,7 @@ pub struct Foretold {
 }
 
 // The answer of the report, and what it would leave.
-#[derive(Drop)]
+#[derive(Clone, Copy)]
 pub struct Previewed {
     pub answer: Verdict,
     pub foretold: Foretold,

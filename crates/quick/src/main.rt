@@ -1,6 +1,9 @@
 // Prints the listing of the map file on standard input by the quick planner. No more than 4,096 bytes are read.
-use libc::{STDIN_FILENO, STDOUT_FILENO};
 use repair::Planner;
+
+// The descriptors of standard input and standard output.
+const STDIN_FILENO: i32 = 0;
+const STDOUT_FILENO: i32 = 1;
 
 fn main() {
     let mut buf = io::buffer();

@@ -14,14 +14,14 @@ use array::Refusal;
 use formats::{Kind, Number, Record};
 
 // What reading a record gives: the offset after it and its position, or the refusal.
-#[derive(Drop)]
+#[derive(Clone, Copy)]
 pub enum Step {
     Next(usize, usize),
     Refused(Refusal),
 }
 
 // What both readers return of a file: N, M and the count, which of a map is that of both lists.
-#[derive(Drop)]
+#[derive(Clone, Copy)]
 pub struct Head {
     pub rows: usize,
     pub columns: usize,
@@ -30,14 +30,14 @@ pub struct Head {
 
 // What the reader of plan files answers, with T, the trials on record. The inner parts answer so for both kinds of file:
 // a map has no T, and 0 stands for it.
-#[derive(Drop)]
+#[derive(Clone, Copy)]
 pub enum FileRead {
     File(Head, u32),
     Refused(Refusal),
 }
 
 // What the reader of map files answers.
-#[derive(Drop)]
+#[derive(Clone, Copy)]
 pub enum MapRead {
     File(Head),
     Refused(Refusal),

@@ -3,11 +3,15 @@
 // and nothing to standard output then.
 use array::Refusal;
 use exact::Decision;
-use libc::{STDERR_FILENO, STDIN_FILENO, STDOUT_FILENO};
 use readers::{Head, MapRead};
 use repair::{Answer, Planner};
 use trials::Outcome;
 use writers::FileWritten;
+
+// The descriptors of standard error, standard input and standard output.
+const STDERR_FILENO: i32 = 2;
+const STDIN_FILENO: i32 = 0;
+const STDOUT_FILENO: i32 = 1;
 
 // The descriptor that says by which planner.
 const CHOICE: i32 = 3;

@@ -21,7 +21,7 @@ use trials::Outcome;
 
 // The planners: the trial rule over all inner faults, the quick one, which settles outer faults first, and the exact one,
 // which is never spent.
-#[derive(Drop)]
+#[derive(Clone, Copy)]
 pub enum Planner {
     Trials,
     Quick,
@@ -29,7 +29,7 @@ pub enum Planner {
 }
 
 // What a planner answers: the outcome of its trials, what the exact planner decides, or a refusal with its places.
-#[derive(Drop)]
+#[derive(Clone, Copy)]
 pub enum Answer {
     Planned(Outcome),
     Decided(Decision),

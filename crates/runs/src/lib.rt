@@ -14,7 +14,7 @@ use track::Followed;
 use trials::Outcome;
 
 // What a run answers: the refusal of its tests or the planner's answer, and how many links to a neighbour the follower found to reach it.
-#[derive(Drop)]
+#[derive(Clone, Copy)]
 pub struct Ran {
     pub answer: Answer,
     pub links: usize,

@@ -2,7 +2,7 @@
 use crate::buffers;
 
 // What the check finds: 0 where all is well, or document 01's number with its places.
-#[derive(Drop)]
+#[derive(Clone, Copy)]
 pub struct Finding {
     pub number: u8,
     pub place: usize,

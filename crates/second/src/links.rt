@@ -4,7 +4,7 @@ use crate::{buffers, switches};
 
 // A link followed: the node it is at, the side it leaves by (0 W, 1 E, 2 N, 3 S), the switches passed, and its state:
 // 0 goes on, 1 has entered the processor by that side, 2 has no track ahead.
-#[derive(Drop)]
+#[derive(Clone, Copy)]
 pub struct Walk {
     pub node: usize,
     pub side: u8,

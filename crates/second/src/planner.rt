@@ -3,7 +3,7 @@
 use crate::buffers;
 
 // A search: how many trials are made, how many are allowed, and its state: 0 goes on, 1 has a plan, 2 is stopped by the limit.
-#[derive(Drop)]
+#[derive(Clone, Copy)]
 struct Search {
     made: u32,
     limit: u32,
@@ -14,7 +14,7 @@ struct Search {
 type Kept = [u32; 160];
 
 // The answer: 0 repaired, 1 beyond repair, 2 spent; and T, or the limit.
-#[derive(Drop)]
+#[derive(Clone, Copy)]
 pub struct Planned {
     pub outcome: u8,
     pub count: u32,

@@ -16,7 +16,7 @@ use array::{Refusal, Verdict};
 // A session, laid out as in C: a map with the directions of a plan for it, and for each direction a counter by position: how many kept
 // paths of other processors meet or nearly miss a path from there.
 #[repr(C)]
-#[derive(Drop)]
+#[derive(Clone, Copy)]
 pub struct Session {
     pub rows: usize,
     pub columns: usize,
@@ -29,14 +29,14 @@ pub struct Session {
 }
 
 // An answer with the session as it is then.
-#[derive(Drop)]
+#[derive(Clone, Copy)]
 pub struct Reported {
     pub answer: Verdict,
     pub session: Session,
 }
 
 // What the tests of a report say: the direction of the path that comes or goes (0 where none does), or a refusal.
-#[derive(Drop)]
+#[derive(Clone, Copy)]
 enum Judged {
     Path(u8),
     Refused(Refusal),

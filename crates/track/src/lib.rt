@@ -5,7 +5,7 @@ ghost use Rattle.track.specs.Letters.{letter};
 use array::Refusal;
 
 // Where a link comes out: the position of the processor, its port (W, E, N, S are 0 to 3), and how many switches were passed.
-#[derive(Drop)]
+#[derive(Clone, Copy)]
 pub struct Landing {
     pub position: usize,
     pub port: u8,
@@ -13,7 +13,7 @@ pub struct Landing {
 }
 
 // What the follower answers.
-#[derive(Drop)]
+#[derive(Clone, Copy)]
 pub enum Followed {
     Entered(Landing),
     Refused(Refusal),

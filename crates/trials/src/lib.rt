@@ -17,7 +17,7 @@ const CLOSED: u8 = 1;
 const OPEN: u8 = 2;
 
 // The planner's outcome, with its count: T, or the limit where the search is spent.
-#[derive(Drop)]
+#[derive(Clone, Copy)]
 pub enum Outcome {
     Repaired(u32),
     Beyond(u32),

@@ -2,14 +2,14 @@
 ghost use Rattle.std.specs.Prelude.{◌≤◌, length};
 
 // A word starts at `start` and ends before `end`. Where a line has no such word the two are equal.
-#[derive(Drop)]
+#[derive(Clone, Copy)]
 pub struct Word {
     pub start: usize,
     pub end: usize,
 }
 
 // A number, and whether a word spells it.
-#[derive(Drop)]
+#[derive(Clone, Copy)]
 pub struct Value {
     pub value: usize,
     pub ok: bool,

@@ -14,7 +14,7 @@ use array::{Refusal, Verdict};
 use formats::{Kind, Record};
 
 // What a writer answers: the length of the file, or the refusal.
-#[derive(Drop)]
+#[derive(Clone, Copy)]
 pub enum FileWritten {
     Length(usize),
     Refused(Refusal),
@@ -23,7 +23,7 @@ pub enum FileWritten {
 // The inner parts of the writers; some have a `requires`.
 
 // The parts of a file after N and M: its first list, and what follows that.
-#[derive(Drop)]
+#[derive(Clone, Copy)]
 enum Part {
     First,
     Rest,
