@@ -13,7 +13,8 @@ import re
 import sys
 
 TOKEN = re.compile(r'--[^\n]*|[^\s(){}\[\],;."`]+')
-HEAD = re.compile(r"^(?:(?:pub|abbrev|unfoldable)\s+)*([^\s:]+)\s*:", re.M)
+HEAD = re.compile(r"^ {0,2}(?:(?:pub|abbrev|unfoldable)\s+)*(?!use\b|module\b|let\b|record\b|data\b|in\b)([^\s:(){}]+)\s*:(?=\s)", re.M)
+MODULE = re.compile(r"^module _ (.*?) where$", re.M | re.S)
 KINDS = ("", "overflow-", "nonzero-", "bounds-", "slice-bounds-")
 plain = lambda it: it.replace("_", "-")
 
@@ -37,7 +38,8 @@ class Function:
     """What Rattle says of one function's names."""
 
     def __init__(self, entry):
-        self.new_place, self.parent, self.step, self.parts, self.arms = {}, {}, {}, {}, {}
+        self.new_place, self.parent, self.step, self.parts, self.arms, self.merged = {}, {}, {}, {}, {}, {}
+        self.arm_name = {}
         arms = entry["arms"]
         for k, (place, new) in enumerate(zip(entry["places"], entry["places_by_name"])):
             old, parent, names, _, parts = place[:5]
@@ -47,12 +49,16 @@ class Function:
                 self.step[plain(old)] = (plain(names[0]), names[1])
             self.parts[plain(old)] = {plain(a): b for a, b in parts or []}
             if k < len(arms) and arms[k]:
+                self.merged[plain(old)] = arms[k][1]
+                self.arm_name[plain(old)] = arms[k][0]
                 self.arms[plain(old)] = [(field, plain(step), [plain(p) for p in path]) for field, step, path in arms[k][2]]
         self.goals, self.goal_place = {}, {}
         for (old, new), at in zip(entry["needs"], entry["asked_at"]):
             self.goals[plain(old)] = new
             self.goal_place[plain(old)] = plain(at[0])
         self.loops = {plain(names[0]): names[1] for names, _ in entry["loops"]}
+        self.params = entry["params"]
+        self.callee = {plain(p[0]): p[3] for p in entry["places"]}
 
     def goal(self, key):
         for kind in KINDS:
@@ -60,47 +66,135 @@ class Function:
                 return key[len(kind) :]
         return None
 
-    def steps(self, place):
-        """The old steps on the way to a place, each with its new name, its fields and its arm; of all places where there is none."""
-        found = {}
-        places = []
-        while place:
-            places.append(place)
-            place = self.parent.get(place)
-        for p in reversed(places or list(self.step)):
-            if p in self.step:
-                old, new = self.step[p]
-                found[old] = (new, self.parts.get(p, {}), self.arms.get(p, []))
-        return found
+
+LET = re.compile(r"\blet\s+([^\s:=]+)\s*=\s*([^\s.()]+)((?:\.before)*)\s+in\b[ \t]*\n?[ \t]*")
+AT_START = {"args", "requires", "ranges", "lifetimes", "well_formed", "pre"}
 
 
-def turn_block(block, function, words, said):
-    place = None
-    head = block.split("\n\n")[0]
-    m = re.search(r"tie\.Need-([^\s()]+)", head)
-    if m:
-        key = function.goal(plain(m.group(1)))
-        place = function.goal_place.get(key) if key else None
-    else:
-        m = re.search(r"tie\.((?:After|At|In|Then|Else)[^\s()]*)", head)
-        if m and plain(m.group(1)) in function.parent:
-            place = plain(m.group(1))
-    steps = function.steps(place)
+def place_in(text, function):
+    m = re.match(r"tie\.([^\s()]+)", text.strip())
+    if not m:
+        return None
+    word = m.group(1)
+    if word.startswith("Need-"):
+        return function.goal_place.get(function.goal(plain(word[5:])))
+    return plain(word) if plain(word) in function.parent else None
+
+
+def arrows(text):
+    """The parts of a type between its outermost arrows."""
+    parts, depth, start = [], 0, 0
+    for k, ch in enumerate(text):
+        if ch in "([{":
+            depth += 1
+        elif ch in ")]}":
+            depth -= 1
+        elif ch == "→" and depth == 0:
+            parts.append(text[start:k])
+            start = k + 1
+    return parts + [text[start:]]
+
+
+def records(head, name, function):
+    """For a declaration: the place of each explicit parameter that is a record of a place, by index, and that of its result."""
+    m = re.match(r"(?:(?:pub|abbrev|unfoldable)\s+)*[^\s:]+\s*:(.*)", head, re.S)
+    if not m:
+        return {}, None
+    parts = arrows(m.group(1))
+    found, k = {}, 0
+    if place_in(parts[0], function) and len(parts) == 1:
+        return ({0: place_in(parts[0], function)}, None) if "tie.Need-" in parts[0] else ({}, place_in(parts[0], function))
+    for part in parts[:-1]:
+        part = part.strip()
+        if part.startswith("{"):
+            continue
+        groups = re.findall(r"\(([^()]*?):\s*((?:[^()]|\([^()]*\))*)\)", part) if part.startswith("(") and ":" in part else None
+        if groups:
+            for names, kind in groups:
+                for _ in names.split():
+                    if place_in(kind, function):
+                        found[k] = place_in(kind, function)
+                    k += 1
+        else:
+            if place_in(part, function):
+                found[k] = place_in(part, function)
+            k += 1
+    return found, place_in(parts[-1], function)
+
+
+def split_head(block, name):
+    """A declaration's signature, and its equations."""
+    m = re.search(r"^ {0,2}" + re.escape(name) + r"(?=[\s{])(?!\s*:)", block, re.M)
+    return (block[: m.start()], block[m.start() :]) if m else (block, "")
+
+
+def turn_block(block, function, words, said, helpers, of_module):
+    m = HEAD.match(block)
+    name = m.group(1) if m else ""
+    head, body = split_head(block, name) if name else (block, "")
+    found, result = helpers.get(name, ({}, None))
+    given = dict(of_module)
+    for names, kind in re.findall(r"\(([^():]*):\s*(tie\.(?:[^()]|\([^()]*\))*)\)", head):
+        for it in names.split():
+            if place_in(kind, function):
+                given[it] = place_in(kind, function)
+    head, given = without_lets(head, given)
+    bases = dict(of_module)
+    if body:
+        left = re.match(r"[^=]*?=", body)
+        arguments = left.group(0).split()[1:-1] if left else []
+        for k, place in found.items():
+            if k < len(arguments):
+                bases[arguments[k]] = place
+        body, bases = without_lets(body, bases)
+    head = walk(head, function, given, None, words, said, helpers)
+    return head + walk(body, function, bases, result, words, said, helpers)
+
+
+def without_lets(text, bases):
+    """The text with each name that is a record of a place, or one before it, written as the name of the first."""
+    bases = dict(bases)
+    while True:
+        hit = next((l for l in LET.finditer(text) if l.group(2) in bases), None)
+        if not hit:
+            return text, bases
+        text = text[: hit.start()] + text[hit.end() :]
+        text = re.sub(r"(?<![\w.'-])" + re.escape(hit.group(1)) + r"(?![\w'-])", hit.group(2), text)
+
+
+def ancestors(place, function):
+    """The places on the way back; an arm stands for the places that it took in."""
+    found = []
+    while place:
+        found.append(place)
+        for _ in range(function.merged.get(place, 1)):
+            place = function.parent.get(place)
+    return found
+
+
+def walk(block, function, bases, result, words, said, helpers):
     out, end = [], 0
-    tokens = list(TOKEN.finditer(block))
+    tokens = [t for t in TOKEN.finditer(block)]
     k = 0
     while k < len(tokens):
         t = tokens[k]
         word = t.group(0)
+        used, new = 1, None
         if word.startswith("--"):
             k += 1
             continue
-        new, used = turned(block, tokens, k, function, steps, words, said)
+        projected = t.start() and block[t.start() - 1] == "."
+        if word in bases and not projected:
+            new, used = path(block, tokens, k, function, bases[word], result, words, said, helpers)
+        elif not projected or block[max(0, t.start() - 4) : t.start()] == "tie.":
+            new = of_tie(block, t, word, function, said)
+        elif "-" in word and plain(word) in words:
+            new = words[plain(word)]
         if new is not None:
             out.append(block[end : t.start()])
             out.append(new)
             end = tokens[k + used - 1].end()
-        k += max(used, 1)
+        k += used
     out.append(block[end:])
     return "".join(out)
 
@@ -114,49 +208,136 @@ def fields_after(block, tokens, k):
     return found
 
 
-def turned(block, tokens, k, function, steps, words, said):
-    t = tokens[k]
-    word = t.group(0)
-    before = block[t.start() - 1] if t.start() else ""
-    if block[max(0, t.start() - 4) : t.start()] == "tie.":
-        if word.startswith("Need-"):
-            key = function.goal(plain(word[5:]))
-            if key:
-                return "Need-" + function.goals[key], 1
+def path(block, tokens, k, function, base, result, words, said, helpers):
+    """A path from the record of a place: to the nearest place on the way that has the step, and on by the step's new names."""
+    fields = fields_after(block, tokens, k)
+    used = 1 + len(fields)
+    name = tokens[k].group(0)
+    while fields and fields[0] == "before":
+        fields = fields[1:]
+    way = ancestors(base, function)
+
+    def up(place):
+        return name + ".before" * way.index(place)
+
+    if not fields:
+        place = wanted(block, tokens, k, helpers) or result
+        if place in way:
+            return up(place), used
+        if used > 1:
+            said.append("where: " + block[tokens[k].start() : tokens[k + used - 1].end()])
+        return None, used
+    key = plain(fields[0])
+    if fields[0] in AT_START or key.startswith(("fits-", "told-")):
+        rest = ["requires" if fields[0] == "pre" else fields[0].replace("well-formed", "well_formed")] + fields[1:]
+        return ".".join([up(way[-1])] + respelled(rest, words)), used
+    for place in way:
+        new = function.step[place][1] if place in function.step else None
+        arms = [a for a in function.arms.get(place, []) if a[1] == key]
+        if arms:
+            rest = fields[1:]
+            for field, _, arm in sorted(arms, key=lambda a: -len(a[2])):
+                if [plain(f) for f in rest[: len(arm)]] == arm:
+                    return ".".join([up(place), function.arm_name[place], field] + respelled(rest[len(arm) :], words)), used
+        if place in function.step and function.step[place][0] == key:
+            rest = fields[1:]
+            parts = function.parts[place]
+            if rest and plain(rest[0]) in parts:
+                rest = [parts[plain(rest[0])]] + rest[1:]
+            if rest and rest[0] == "new":
+                rest = last_values(rest, function.callee.get(place), function)
+            return ".".join([up(place), new] + respelled(rest, words)), used
+    said.append("no step: " + block[tokens[k].start() : tokens[k + used - 1].end()])
+    return None, used
+
+
+def last_values(rest, callee, function):
+    """What a call left in a parameter goes by its name, and went by its position."""
+    n = 1
+    while n < len(rest) and rest[n] == "1":
+        n += 1
+    names = function.params.get(callee, [])
+    if n < len(rest) and rest[n] == "0" and n - 1 < len(names):
+        return ["new", names[n - 1]] + rest[n + 1 :]
+    return rest
+
+
+def respelled(fields, words):
+    return [words[plain(f)] if "-" in f and plain(f) in words else f for f in fields]
+
+
+def wanted(block, tokens, k, helpers):
+    """The place whose record a helper wants as the argument that stands at token k."""
+    n = 0
+    j = k - 1
+    while j >= 0 and n < 4:
+        between = block[tokens[j].end() : tokens[j + 1].start()]
+        if not re.fullmatch(r"[\s.]*", between):
+            return None
+        if between != "." and tokens[j].group(0) in helpers:
+            return helpers[tokens[j].group(0)][0].get(n)
+        if between != ".":
+            n += 1
+        j -= 1
+    return None
+
+
+def of_tie(block, t, word, function, said):
+    if block[max(0, t.start() - 4) : t.start()] != "tie.":
+        return None
+    if word.startswith("Need-"):
+        key = function.goal(plain(word[5:]))
+        if key:
+            return "Need-" + function.goals[key]
+        said.append(word)
+        return None
+    for kind in ("invariant-", "decreases-"):
+        if word.startswith(kind):
+            key = plain(word[len(kind) :])
+            if key in function.loops:
+                return kind + function.loops[key]
             said.append(word)
-            return None, 1
-        for kind in ("invariant-", "decreases-"):
-            if word.startswith(kind):
-                key = plain(word[len(kind) :])
-                if key in function.loops:
-                    return kind + function.loops[key], 1
-                said.append(word)
-                return None, 1
-        if plain(word) in function.new_place:
-            return function.new_place[plain(word)], 1
-        return None, 1
-    if before == ".":
-        key = plain(word)
-        if key in steps:
-            new, parts, arms = steps[key]
-            fields = fields_after(block, tokens, k)
-            for field, step, path in sorted(arms, key=lambda a: -len(a[2])):
-                if step == key and [plain(f) for f in fields[: len(path)]] == path:
-                    return ".".join([new, field]), 1 + len(path)
-            if fields and plain(fields[0]) in parts:
-                return new + "." + parts[plain(fields[0])], 2
-            return new, 1
-        if "-" in word and key in words:
-            return words[key], 1
-    return None, 1
+            return None
+    return function.new_place.get(plain(word))
 
 
 def turn(text, entry, words, name):
     function = Function(entry)
     said = []
-    heads = [m.start() for m in HEAD.finditer(text)]
-    cuts = [0] + heads + [len(text)]
-    out = "".join(turn_block(text[a:b], function, words, said) for a, b in zip(cuts, cuts[1:]))
+    modules = [(m.start(), m.end(), m.group(1), re.search(r"\n(?=[^\s-])", text[m.end() :])) for m in MODULE.finditer(text)]
+    modules = [(a, b, given, b + end.start() + 1 if end else len(text)) for a, b, given, end in modules]
+    cuts = sorted({0, len(text)} | {m.start() for m in HEAD.finditer(text)} | {m[0] for m in modules} | {m[1] for m in modules} | {m[3] for m in modules})
+    inside, outside, blocks = {}, {}, []
+    for a, b in zip(cuts, cuts[1:]):
+        module = next((m for m in modules if m[1] <= a < m[3]), None)
+        block = text[a:b]
+        blocks.append((a, block, module))
+        m = HEAD.match(block)
+        if not m:
+            continue
+        own_name = m.group(1)
+        it = records(split_head(block, own_name)[0].split("\nunfolding")[0].split("\n  unfolding")[0], own_name, function)
+        inside[own_name] = it
+        if module:
+            own = records("m : " + module[2].replace(") (", ") → (") + " → Unit", "m", function)[0]
+            count = len(re.sub(r":[^()]*(\([^()]*\)[^()]*)*", "", module[2]).replace("(", " ").replace(")", " ").split())
+            it = (dict(own) | {k + count: v for k, v in it[0].items()}, it[1])
+        outside[own_name] = it
+    parts = []
+    for a, block, module in blocks:
+        of_module = {}
+        helpers = dict(outside)
+        if module:
+            for names, kind in re.findall(r"\(([^():]*):\s*(tie\.(?:[^()]|\([^()]*\))*)\)", module[2]):
+                for it in names.split():
+                    if place_in(kind, function):
+                        of_module[it] = place_in(kind, function)
+            for b, other, m in blocks:
+                if m and m[0] == module[0] and HEAD.match(other):
+                    helpers[HEAD.match(other).group(1)] = inside[HEAD.match(other).group(1)]
+        parts.append(turn_block(block, function, words, said, helpers, of_module))
+    out = "".join(parts)
+    out = re.sub(r"(?<=[\w)])\.pre(?=[.\s);,])", ".requires", out)
     spec = re.compile(r"(?<![\w-])" + re.escape(plain(name)) + r"-spec(?![\w-])")
     out = spec.sub(name + "_spec", out)
     return out, said
@@ -176,7 +357,7 @@ def main():
         text = read(path)
         out, said = turn(text, entry, words, m.group(1).split(".")[-1])
         for s in said:
-            print(f"{path}: no goal {s}; there are: {', '.join(o + ' > ' + n for o, n in entry['needs'])}")
+            print(f"{path}: {s}")
         if out != text:
             with open(path, "w", encoding="utf-8") as f:
                 f.write(out)
