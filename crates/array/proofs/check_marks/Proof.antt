@@ -23,92 +23,85 @@ Passed n m grid p =
 allowed-here : (n m x y mark : ℕ) → y ≤ 31 → allowed_at n m x y mark ≡ allowed n m (position x y) mark
 allowed-here n m x y mark h = let r = position_read x y h in rw (r.0, r.1)
 
-abbrev invariant-loop2 : tie.invariant-loop2
+abbrev invariant-loop2 : tie.invariant-loop-y
 invariant-loop2 n m grid x y₀ y = (y ≤ 32) × Passed n m grid (32 * x + y)
 
-abbrev decreases-loop2 : tie.decreases-loop2
+abbrev decreases-loop2 : tie.decreases-loop-y
 decreases-loop2 n m grid x y₀ y = 32 - y
 
-abbrev invariant-loop : tie.invariant-loop
+abbrev invariant-loop : tie.invariant-loop-x
 invariant-loop n m grid x₀ x = Passed n m grid (32 * x)
 
-abbrev decreases-loop : tie.decreases-loop
+abbrev decreases-loop : tie.decreases-loop-x
 decreases-loop n m grid x₀ x = 32 - x
 
 -- what was answered for a position
-answered : (q : tie.After-is-allowed invariant-loop2 decreases-loop2 invariant-loop decreases-loop)
-    → let l = q.before.before.before in
-    let a = l.before.before.before.before.args in
-    let p = position l.before.before.loop.x l.loop2.y in
-    q.is-allowed.result ≡ allowed a.n a.m p (get_or a.grid.now p 0)
+answered : (q : tie.After-is_allowed invariant-loop2 decreases-loop2 invariant-loop decreases-loop)
+    → let a = q.before.before.before.before.before.before.before.args in
+    let p = position q.before.before.before.before.before.loop-x.x q.before.before.before.loop-y.y in
+    q.is_allowed.result ≡ allowed a.n a.m p (get_or a.grid.now p 0)
 answered q =
-    let l = q.before.before.before in
-    let within : l.loop2.y ≤ 31 = omega arith in
-    let a = l.before.before.before.before.args in
-    let x = l.before.before.loop.x in
-    let y = l.loop2.y in
-    q.is-allowed.ensures ∙ allowed-here a.n a.m x y (get_or a.grid.now (position x y) 0) within
+    let within : q.before.before.before.loop-y.y ≤ 31 = omega arith in
+    let a = q.before.before.before.before.before.before.before.args in
+    let x = q.before.before.before.before.before.loop-x.x in
+    let y = q.before.before.before.loop-y.y in
+    q.is_allowed.ensures ∙ allowed-here a.n a.m x y (get_or a.grid.now (position x y) 0) within
 
-loop-holds : tie.Need-loop-init invariant-loop2 decreases-loop2 invariant-loop decreases-loop
+loop-holds : tie.Need-loop-x-init invariant-loop2 decreases-loop2 invariant-loop decreases-loop
 loop-holds c = seek_start (buffer_scan _ _) 0 (omega arith)
 
-loop2-holds : tie.Need-loop2-init invariant-loop2 decreases-loop2 invariant-loop decreases-loop
+loop2-holds : tie.Need-loop-y-init invariant-loop2 decreases-loop2 invariant-loop decreases-loop
 loop2-holds c =
-    let l = c.before in
-    let a = l.before.before.args in
-    (omega arith, subst (Passed a.n a.m a.grid.now) (omega arith) l.loop.invariant)
+    let a = c.before.before.before.args in
+    (omega arith, subst (Passed a.n a.m a.grid.now) (omega arith) c.before.loop-x.invariant)
 
-mul-p : tie.Need-overflow-mul-p invariant-loop2 decreases-loop2 invariant-loop decreases-loop
+mul-p : tie.Need-overflow_mul-p invariant-loop2 decreases-loop2 invariant-loop decreases-loop
 mul-p c = omega arith
 
-add-p : tie.Need-overflow-add-p invariant-loop2 decreases-loop2 invariant-loop decreases-loop
+add-p : tie.Need-overflow_add-p invariant-loop2 decreases-loop2 invariant-loop decreases-loop
 add-p c = omega arith
 
 shared-slice-read-is-allowed :
-    tie.Need-shared-slice-read-is-allowed invariant-loop2 decreases-loop2 invariant-loop decreases-loop
+    tie.Need-bounds-grid-p invariant-loop2 decreases-loop2 invariant-loop decreases-loop
 shared-slice-read-is-allowed c = omega arith
 
-is-allowed-requires : tie.Need-is-allowed-requires invariant-loop2 decreases-loop2 invariant-loop decreases-loop
+is-allowed-requires : tie.Need-is_allowed-requires invariant-loop2 decreases-loop2 invariant-loop decreases-loop
 is-allowed-requires c κs = search rules
 
-returns : tie.Need-returns invariant-loop2 decreases-loop2 invariant-loop decreases-loop
+returns : tie.Need-returns-then-not-is_allowed invariant-loop2 decreases-loop2 invariant-loop decreases-loop
 returns c =
-    let q = c.before in
-    seek_stop_if q.before.before.before.loop2.invariant.1 3 _ 0 (omega arith) refl (ap not (answered q)) c.if1.true
+    seek_stop_if c.before.before.before.before.loop-y.invariant.1 3 _ 0 (omega arith) refl (ap not (answered c.before)) c.if-not-is_allowed.true-raw
 
-add-y : tie.Need-overflow-add-y invariant-loop2 decreases-loop2 invariant-loop decreases-loop
+add-y : tie.Need-overflow_step-y invariant-loop2 decreases-loop2 invariant-loop decreases-loop
 add-y c = omega arith
 
-loop2-less : tie.Need-loop2-smaller invariant-loop2 decreases-loop2 invariant-loop decreases-loop
+loop2-less : tie.Need-loop-y-smaller invariant-loop2 decreases-loop2 invariant-loop decreases-loop
 loop2-less c = omega arith
 
-loop2-again : tie.Need-loop2-preserved invariant-loop2 decreases-loop2 invariant-loop decreases-loop
+loop2-again : tie.Need-loop-y-preserved invariant-loop2 decreases-loop2 invariant-loop decreases-loop
 loop2-again c =
-    let q = c.before in
-    let l = q.before.before.before in
-    let a = l.before.before.before.before.args in (
+    let a = c.before.before.before.before.before.before.before.before.args in (
       omega arith,
       subst (Passed a.n a.m a.grid.now) (omega arith)
-          (seek_pass_if l.loop2.invariant.1 3 _ 0 (omega arith) refl (ap not (answered q)) c.if1.false),
+          (seek_pass_if c.before.before.before.before.loop-y.invariant.1 3 _ 0 (omega arith) refl (ap not (answered c.before)) c.if-not-is_allowed.false-raw),
     )
 
-add-x : tie.Need-overflow-add-x invariant-loop2 decreases-loop2 invariant-loop decreases-loop
+add-x : tie.Need-overflow_step-x invariant-loop2 decreases-loop2 invariant-loop decreases-loop
 add-x c = omega arith
 
-loop-less : tie.Need-loop-smaller invariant-loop2 decreases-loop2 invariant-loop decreases-loop
+loop-less : tie.Need-loop-x-smaller invariant-loop2 decreases-loop2 invariant-loop decreases-loop
 loop-less c = omega arith
 
-loop-again : tie.Need-loop-preserved invariant-loop2 decreases-loop2 invariant-loop decreases-loop
+loop-again : tie.Need-loop-x-preserved invariant-loop2 decreases-loop2 invariant-loop decreases-loop
 loop-again c =
-    let l = c.before in
-    let a = l.before.before.before.before.args in
-    subst (Passed a.n a.m a.grid.now) (omega (arith, l.loop2.invariant.0)) l.loop2.invariant.1
+    let a = c.before.before.before.before.before.args in
+    subst (Passed a.n a.m a.grid.now) (omega (arith, c.before.loop-y.invariant.0)) c.before.loop-y.invariant.1
 
-returns-2 : tie.Need-returns-2 invariant-loop2 decreases-loop2 invariant-loop decreases-loop
-returns-2 c = seek_none c.before.loop.invariant (omega arith)
+returns-2 : tie.Need-returns invariant-loop2 decreases-loop2 invariant-loop decreases-loop
+returns-2 c = seek_none c.before.loop-x.invariant (omega arith)
 
-pub check-marks-spec : {M : Type 1} → statement M
-check-marks-spec =
+pub check_marks_spec : {M : Type 1} → statement M
+check_marks_spec =
     tie.close
     (tie.spec
     invariant-loop2

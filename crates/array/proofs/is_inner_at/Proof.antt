@@ -3,11 +3,11 @@
 use Rattle.array.proofs.is_inner_at.Statement.{statement}
 use Rattle.array.proofs.is_inner_at.Tie as tie
 
-returns : tie.Need-returns
-returns c = rw c.if1.true
+returns : tie.Need-returns-then-x-n
+returns c = rw c.if-x-n.true
 
-returns-2 : tie.Need-returns-2
-returns-2 c = rw c.if1.false
+returns-2 : tie.Need-returns
+returns-2 c = rw c.if-x-n.false
 
-pub is-inner-at-spec : {M : Type 1} → statement M
-is-inner-at-spec = tie.close (tie.spec returns returns-2)
+pub is_inner_at_spec : {M : Type 1} → statement M
+is_inner_at_spec = tie.close (tie.spec returns returns-2)

@@ -4,14 +4,14 @@ use borrow.Author.Rules.{rules}
 use Rattle.array.proofs.is_inner_fault.Statement.{statement}
 use Rattle.array.proofs.is_inner_fault.Tie as tie
 
-is-inner-requires : tie.Need-is-inner-requires
+is-inner-requires : tie.Need-is_inner-requires
 is-inner-requires c κs = search rules
 
-is-faulty-requires : tie.Need-is-faulty-requires
+is-faulty-requires : tie.Need-is_faulty-requires
 is-faulty-requires c κs = search rules
 
 returns : tie.Need-returns
-returns c = rw (c.before.is-inner.ensures, c.is-faulty.ensures)
+returns c = rw (c.before.is_inner.ensures, c.is_faulty.ensures)
 
-pub is-inner-fault-spec : {M : Type 1} → statement M
-is-inner-fault-spec = tie.close (tie.spec is-inner-requires is-faulty-requires returns)
+pub is_inner_fault_spec : {M : Type 1} → statement M
+is_inner_fault_spec = tie.close (tie.spec is-inner-requires is-faulty-requires returns)

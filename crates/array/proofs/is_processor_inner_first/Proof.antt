@@ -6,20 +6,20 @@ use borrow.Author.Rules.{rules}
 use Rattle.array.proofs.is_processor_inner_first.Statement.{statement}
 use Rattle.array.proofs.is_processor_inner_first.Tie as tie
 
-is-inner-at-requires : tie.Need-is-inner-at-requires
+is-inner-at-requires : tie.Need-is_inner_at-requires
 is-inner-at-requires c κs = search rules
 
-returns : tie.Need-returns
+returns : tie.Need-returns-then-is_inner_at
 returns c =
     let a = c.before.before.args in
-    sym (inner_stands a.n a.m a.x a.y (sym c.before.is-inner-at.ensures ∙ c.if1.true))
+    sym (inner_stands a.n a.m a.x a.y (sym c.before.is_inner_at.ensures ∙ c.if-is_inner_at.true))
 
-is-processor-at-requires : tie.Need-is-processor-at-requires
+is-processor-at-requires : tie.Need-is_processor_at-requires
 is-processor-at-requires c κs = search rules
 
-returns-2 : tie.Need-returns-2
+returns-2 : tie.Need-returns
 returns-2 c = search rules
 
-pub is-processor-inner-first-spec : {M : Type 1} → statement M
-is-processor-inner-first-spec =
+pub is_processor_inner_first_spec : {M : Type 1} → statement M
+is_processor_inner_first_spec =
     tie.close (tie.spec is-inner-at-requires returns is-processor-at-requires returns-2)

@@ -13,5 +13,5 @@ returns : tie.Need-returns
 unfolding entry clash meet share member path span near_miss
 returns c = let t = tested_table _ refl refl in (t, table_agrees _ t)
 
-pub clash-table-spec : {M : Type 1} → statement M
-clash-table-spec = tie.close (tie.spec returns)
+pub clash_table_spec : {M : Type 1} → statement M
+clash_table_spec = tie.close (tie.spec returns)

@@ -7,22 +7,20 @@ use Rattle.paths.proofs.Classes.{class_above, class_within}
 use Rattle.paths.proofs.class_of.Statement.{statement}
 use Rattle.paths.proofs.class_of.Tie as tie
 
-add-excess : tie.Need-overflow-add-excess
+add-excess : tie.Need-overflow_add-second
 add-excess c = search rules
 
-excess-requires : tie.Need-excess-requires
+excess-requires : tie.Need-excess-class-requires
 excess-requires c κs = search rules
 
-returns : tie.Need-returns
+returns : tie.Need-returns-then-class-gt4
 returns c =
-    let s = c.before.before in
-    (class_above s.args.first s.args.second s.requires.0 s.requires.1 (omega (arith, c.before.excess.ensures)), omega arith)
+    (class_above c.before.before.args.first c.before.before.args.second c.before.before.requires.0 c.before.before.requires.1 (omega (arith, c.before.excess-class.ensures)), omega arith)
 
-returns-2 : tie.Need-returns-2
+returns-2 : tie.Need-returns-else-class-gt4
 returns-2 c =
-    let s = c.before.before in
-    let e = c.before.excess.ensures in
-    (e ∙ class_within s.args.first s.args.second s.requires.0 s.requires.1 (omega (arith, e)), omega arith)
+    let e = c.before.excess-class.ensures in
+    (e ∙ class_within c.before.before.args.first c.before.before.args.second c.before.before.requires.0 c.before.before.requires.1 (omega (arith, e)), omega arith)
 
-pub class-of-spec : {M : Type 1} → statement M
-class-of-spec = tie.close (tie.spec add-excess excess-requires returns returns-2)
+pub class_of_spec : {M : Type 1} → statement M
+class_of_spec = tie.close (tie.spec add-excess excess-requires returns returns-2)

@@ -5,52 +5,49 @@ use borrow.Author.Rules.{rules}
 use Rattle.paths.proofs.find_entry.Statement.{statement}
 use Rattle.paths.proofs.find_entry.Tie as tie
 
-sub-pair : tie.Need-overflow-sub-pair
+sub-pair : tie.Need-overflow_sub-pair
 sub-pair c = search rules
 
-mul-pair : tie.Need-overflow-mul-pair
+mul-pair : tie.Need-overflow_mul-pair
 mul-pair c = search rules
 
-sub-pair-2 : tie.Need-overflow-sub-pair-2
+sub-pair-2 : tie.Need-overflow_sub-pair-2
 sub-pair-2 c = search rules
 
-add-pair : tie.Need-overflow-add-pair
+add-pair : tie.Need-overflow_add-pair
 add-pair c = search rules
 
-mul-result : tie.Need-overflow-mul-result
+mul-result : tie.Need-overflow_mul-result
 mul-result c = search rules
 
-class-of-requires : tie.Need-class-of-requires
+class-of-requires : tie.Need-class_of-requires
 class-of-requires c κs = search rules
 
-mul-result-2 : tie.Need-overflow-mul-result-2
+mul-result-2 : tie.Need-overflow_mul-result-2
 mul-result-2 c = omega arith
 
-add-result : tie.Need-overflow-add-result
+add-result : tie.Need-overflow_add-result
 add-result c = omega arith
 
-class-of-requires-2 : tie.Need-class-of-requires-2
+class-of-requires-2 : tie.Need-class_of-requires-2
 class-of-requires-2 c κs = search rules
 
-add-result-2 : tie.Need-overflow-add-result-2
+add-result-2 : tie.Need-overflow_add-result-2
 add-result-2 c = omega arith
 
-element-copy-out-result : tie.Need-element-copy-out-result
+element-copy-out-result : tie.Need-bounds-table-pair
 element-copy-out-result c = omega arith
 
 returns : tie.Need-returns
 returns c =
-    let b = c.before in
-    let r = b.before in
-    let s = r.before in
-    let p = s.requires.1 in
-    let q = s.requires.2 in
-    let x = r.class_of.ensures in
-    let y = b.class-of2.ensures in
-    rw (← x.0, ← y.0) (s.requires.0.right _ _ _ _ p.low p.high q.low q.high x.1 y.1)
+    let p = c.before.before.before.before.requires.1 in
+    let q = c.before.before.before.before.requires.2 in
+    let x = c.before.before.before.class_of.ensures in
+    let y = c.before.before.class_of-2.ensures in
+    rw (← x.0, ← y.0) (c.before.before.before.before.requires.0.right _ _ _ _ p.low p.high q.low q.high x.1 y.1)
 
-pub find-entry-spec : {M : Type 1} → statement M
-find-entry-spec =
+pub find_entry_spec : {M : Type 1} → statement M
+find_entry_spec =
     tie.close
     (tie.spec
     sub-pair

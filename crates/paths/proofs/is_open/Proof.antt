@@ -25,43 +25,42 @@ start-by : (n m p d : ℕ) (grid : List ℕ) (r s : Bool) → p < length grid �
     → may_start n m grid p d ≡ not (r && not s)
 start-by n m p d grid r s h e f = rw (mark_read grid p h, ← e, ← f) (started r s)
 
-start_of : (c : tie.After-is-from-rim)
+start_of : (c : tie.After-is_from_rim)
     → let a = c.before.before.before.before.args in
-    may_start a.n a.m a.grid.now a.p a.d ≡ not (c.before.is-dead.result && not c.is-from-rim.result)
+    may_start a.n a.m a.grid.now a.p a.d ≡ not (c.before.is_dead.result && not c.is_from_rim.result)
 start_of c =
-    let s = c.before.before.before.before in
-    let a = s.args in
-    start-by a.n a.m a.p a.d a.grid.now _ _ (omega (arith, start_inner s.requires.0)) c.before.is-dead.ensures
-    c.is-from-rim.ensures
+    let a = c.before.before.before.before.args in
+    start-by a.n a.m a.p a.d a.grid.now _ _ (omega (arith, start_inner c.before.before.before.before.requires.0)) c.before.is_dead.ensures
+    c.is_from_rim.ensures
 
-shared-slice-read-is-dead : tie.Need-shared-slice-read-is-dead
+shared-slice-read-is-dead : tie.Need-bounds-grid-p
 shared-slice-read-is-dead c = omega (arith, start_inner c.before.before.requires.0)
 
-is-dead-requires : tie.Need-is-dead-requires
+is-dead-requires : tie.Need-is_dead-requires
 is-dead-requires c κs = search rules
 
-is-from-rim-requires : tie.Need-is-from-rim-requires
+is-from-rim-requires : tie.Need-is_from_rim-requires
 is-from-rim-requires c κs = search rules
 
-returns : tie.Need-returns
+returns : tie.Need-returns-then-is_dead-is_from_rim
 unfolding is_open
 returns c =
     let a = c.before.before.before.before.before.args in
-    let s = start_of c.before ∙ ap not c.if1.true in
+    let s = start_of c.before ∙ ap not c.if-is_dead-is_from_rim.true in
     sym (ap (λ (b : Bool). b && is_free a.n a.m a.grid.now a.p a.d) s)
 
-is-free-requires : tie.Need-is-free-requires
+is-free-requires : tie.Need-is_free-requires
 is-free-requires c κs = search rules
 
-returns-2 : tie.Need-returns-2
+returns-2 : tie.Need-returns
 unfolding is_open
 returns-2 c =
     let a = c.before.before.before.before.before.before.args in
-    let s = start_of c.before.before ∙ ap not c.before.if1.false in
+    let s = start_of c.before.before ∙ ap not c.before.if-is_dead-is_from_rim.false in
     c.is_free.ensures ∙ sym (ap (λ (b : Bool). b && is_free a.n a.m a.grid.now a.p a.d) s)
 
-pub is-open-spec : {M : Type 1} → statement M
-is-open-spec =
+pub is_open_spec : {M : Type 1} → statement M
+is_open_spec =
     tie.close
     (tie.spec
     shared-slice-read-is-dead

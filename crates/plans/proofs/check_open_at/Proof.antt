@@ -7,36 +7,32 @@ use borrow.Author.Rules.{rules}
 use Rattle.plans.proofs.check_open_at.Statement.{statement}
 use Rattle.plans.proofs.check_open_at.Tie as tie
 
-mul_wide : tie.Need-overflow-mul-wide
+mul_wide : tie.Need-offset_bounds-starts-k
 mul_wide c = search rules
 
-shared-slice-read-wide : tie.Need-shared-slice-read-wide
+shared-slice-read-wide : tie.Need-bounds-starts-k
 shared-slice-read-wide c = search rules
 
-wide-requires : tie.Need-wide-requires
+wide-requires : tie.Need-wide-p-requires
 wide-requires c κs = search rules
 
-shared-slice-read-is-open : tie.Need-shared-slice-read-is-open
+shared-slice-read-is-open : tie.Need-bounds-ds-k
 shared-slice-read-is-open c = search rules
 
-is-open-requires : tie.Need-is-open-requires
+is-open-requires : tie.Need-is_open-requires
 is-open-requires c κs =
-    let w = c.before in
-    let s = w.before.before.before.before.before in
-    (rw w.wide.ensures (s.requires.0.each s.args.k s.requires.1), s.requires.2)
+    (rw c.before.wide-p.ensures (c.before.before.before.before.before.before.requires.0.each c.before.before.before.before.before.before.args.k c.before.before.before.before.before.before.requires.1), c.before.before.before.before.before.before.requires.2)
 
-returns : tie.Need-returns
+returns : tie.Need-returns-then-not-is_open
 returns c =
-    let w = c.before.before.before in
-    rw w.wide.ensures (sym (cond_taken _ _ (ap not (rw w.wide.ensures at c.before.is_open.ensures)) c.if1.true))
+    rw c.before.before.before.wide-p.ensures (sym (cond_taken _ _ (ap not (rw c.before.before.before.wide-p.ensures at c.before.is_open.ensures)) c.if-not-is_open.true-raw))
 
-returns-2 : tie.Need-returns-2
+returns-2 : tie.Need-returns
 returns-2 c =
-    let w = c.before.before.before in
-    sym (cond_left _ _ (ap not (rw w.wide.ensures at c.before.is_open.ensures)) c.if1.false)
+    sym (cond_left _ _ (ap not (rw c.before.before.before.wide-p.ensures at c.before.is_open.ensures)) c.if-not-is_open.false-raw)
 
-pub check-open-at-spec : {M : Type 1} → statement M
-check-open-at-spec =
+pub check_open_at_spec : {M : Type 1} → statement M
+check_open_at_spec =
     tie.close
     (tie.spec
     mul_wide

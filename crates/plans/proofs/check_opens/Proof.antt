@@ -20,46 +20,44 @@ opens_at n m grid starts ds k = open_test n m grid (fault_at starts ds k)
 abbrev opens-from : ℕ → ℕ → List ℕ → List ℕ → List ℕ → ℕ → Verdict
 opens-from n m grid starts ds k = first_of (open_test n m grid) (drop k (paired starts ds))
 
-abbrev invariant-loop : tie.invariant-loop
+abbrev invariant-loop : tie.invariant-loop-k
 invariant-loop n m grid starts ds count k₀ k =
     Seeking (opens_at n m grid starts ds) (opens-from n m grid starts ds) (length starts) k (opens_test n m grid (paired starts ds))
 
-abbrev decreases-loop : tie.decreases-loop
+abbrev decreases-loop : tie.decreases-loop-k
 decreases-loop n m grid starts ds count k₀ k = length starts - k
 
-loop-holds : tie.Need-loop-init invariant-loop decreases-loop
+loop-holds : tie.Need-loop-k-init invariant-loop decreases-loop
 loop-holds c = seek_start (faults_scan _ _ c.before.before.before.requires.0.same _) 0 (omega arith)
 
-check-open-at-requires : tie.Need-check-open-at-requires invariant-loop decreases-loop
+check-open-at-requires : tie.Need-check_open_at-v-requires invariant-loop decreases-loop
 check-open-at-requires c κs = let s = c.before.before.before.before.before.requires in (s.0, omega arith, s.1)
 
-enum_told : tie.Need-enum-told invariant-loop decreases-loop
+enum_told : tie.Need-enum_told-1 invariant-loop decreases-loop
 enum_told c = search rules
 
-returns : tie.Need-returns invariant-loop decreases-loop
+returns : tie.Need-returns-in-Refused invariant-loop decreases-loop
 returns c =
-    let k = c.before.before in
-    seek_stop k.before.before.loop.invariant (omega arith) k.check-open-at.ensures c.enum_told.given.1
+    seek_stop c.before.before.before.loop-k.invariant (omega arith) c.before.check_open_at-v.ensures c.in-Refused.is
 
-enum-told-2 : tie.Need-enum-told-2 invariant-loop decreases-loop
+enum-told-2 : tie.Need-enum_told-in_default invariant-loop decreases-loop
 enum-told-2 c = search rules
 
-add-k : tie.Need-overflow-add-k invariant-loop decreases-loop
+add-k : tie.Need-overflow_step-k invariant-loop decreases-loop
 add-k c = omega arith
 
-loop-less : tie.Need-loop-smaller invariant-loop decreases-loop
+loop-less : tie.Need-loop-k-smaller invariant-loop decreases-loop
 loop-less c = omega arith
 
-loop-again : tie.Need-loop-preserved invariant-loop decreases-loop
+loop-again : tie.Need-loop-k-preserved invariant-loop decreases-loop
 loop-again c =
-    let k = c.before.before in
-    seek_pass k.before.before.loop.invariant (omega arith) k.check-open-at.ensures c.enum-told2.given.1
+    seek_pass c.before.before.before.loop-k.invariant (omega arith) c.before.check_open_at-v.ensures c.in_default.is
 
-returns-2 : tie.Need-returns-2 invariant-loop decreases-loop
-returns-2 c = seek_none c.before.loop.invariant (omega arith)
+returns-2 : tie.Need-returns invariant-loop decreases-loop
+returns-2 c = seek_none c.before.loop-k.invariant (omega arith)
 
-pub check-opens-spec : {M : Type 1} → statement M
-check-opens-spec =
+pub check_opens_spec : {M : Type 1} → statement M
+check_opens_spec =
     tie.close
     (tie.spec
     invariant-loop

@@ -35,12 +35,12 @@ pairs-from n m starts ds i = pairs_test n m (drop i (paired starts ds))
 abbrev Sized : (ℕ → ℕ → Type 0) → List ℕ → List ℕ → Type 0
 Sized P starts ds = (n m : ℕ) (grid : List ℕ) → Starts n m starts ds → OpenFaults n m grid starts ds → P n m
 
-abbrev invariant-loop : tie.invariant-loop
+abbrev invariant-loop : tie.invariant-loop-j
 invariant-loop starts rows columns ds count table found₀ i j₀ found j =
     Sized (λ n m. Seeking (pair-at n m starts ds i) (pairs-with n m starts ds i) (length starts) j (pairs_of n m starts ds i)) starts ds
     × (found ≡ Accepted) × (i < j)
 
-abbrev decreases-loop : tie.decreases-loop
+abbrev decreases-loop : tie.decreases-loop-j
 decreases-loop starts rows columns ds count table found₀ i j₀ found j = length starts - j
 
 abbrev invariant-pairs : tie.invariant-pairs
@@ -51,46 +51,44 @@ invariant-pairs starts rows columns ds count table found₀ i₀ found i =
 abbrev decreases-pairs : tie.decreases-pairs
 decreases-pairs starts rows columns ds count table found₀ i₀ found i = length starts - i
 
-clash-table-requires : tie.Need-clash-table-requires invariant-loop decreases-loop invariant-pairs decreases-pairs
+clash-table-requires : tie.Need-clash_table-table-requires invariant-loop decreases-loop invariant-pairs decreases-pairs
 clash-table-requires c κs = search rules
 
 pairs-holds : tie.Need-pairs-init invariant-loop decreases-loop invariant-pairs decreases-pairs
 pairs-holds c = ((λ n m g s o. seek_start (pairs_scan _ _ s.same _ _) 0 (omega arith)), refl)
 
-add-j : tie.Need-overflow-add-j invariant-loop decreases-loop invariant-pairs decreases-pairs
+add-j : tie.Need-overflow_step-j invariant-loop decreases-loop invariant-pairs decreases-pairs
 add-j c = omega arith
 
-loop-holds : tie.Need-loop-init invariant-loop decreases-loop invariant-pairs decreases-pairs
+loop-holds : tie.Need-loop-j-init invariant-loop decreases-loop invariant-pairs decreases-pairs
 loop-holds c = ((λ n m g s o. seek_start (faults_scan _ _ s.same _) _ (omega arith)), c.before.pairs.invariant.1, omega arith)
 
-check-pair-at-requires : tie.Need-check-pair-at-requires invariant-loop decreases-loop invariant-pairs decreases-pairs
+check-pair-at-requires : tie.Need-check_pair_at-v-requires invariant-loop decreases-loop invariant-pairs decreases-pairs
 check-pair-at-requires c κs =
-    let t = c.before.before.before.before.before in
-    let s = t.before.before.before.before.before.requires in
-    (t.clash-table.ensures.0, s.0, s.1, c.before.before.loop.invariant.2, omega arith)
+    let s = c.before.before.before.before.before.before.before.before.before.before.requires in
+    (c.before.before.before.before.before.clash_table-table.ensures.0, s.0, s.1, c.before.before.loop-j.invariant.2, omega arith)
 
-enum_told : tie.Need-enum-told invariant-loop decreases-loop invariant-pairs decreases-pairs
+enum_told : tie.Need-enum_told-1 invariant-loop decreases-loop invariant-pairs decreases-pairs
 enum_told c = search rules
 
-enum-told-2 : tie.Need-enum-told-2 invariant-loop decreases-loop invariant-pairs decreases-pairs
+enum-told-2 : tie.Need-enum_told-in_default invariant-loop decreases-loop invariant-pairs decreases-pairs
 enum-told-2 c = search rules
 
-add-j-2 : tie.Need-overflow-add-j-2 invariant-loop decreases-loop invariant-pairs decreases-pairs
+add-j-2 : tie.Need-overflow_step-j-in-loop-j invariant-loop decreases-loop invariant-pairs decreases-pairs
 add-j-2 c = omega arith
 
-loop-less : tie.Need-loop-smaller invariant-loop decreases-loop invariant-pairs decreases-pairs
+loop-less : tie.Need-loop-j-smaller invariant-loop decreases-loop invariant-pairs decreases-pairs
 loop-less c = omega arith
 
-loop-again : tie.Need-loop-preserved invariant-loop decreases-loop invariant-pairs decreases-pairs
+loop-again : tie.Need-loop-j-preserved invariant-loop decreases-loop invariant-pairs decreases-pairs
 loop-again c =
-    let k = c.before.before in
-    let v = k.before.before.before.loop.invariant in (
-      (λ n m g s o. seek_pass (v.0 n m g s o) (omega arith) (k.check-pair-at.ensures n m g s o) c.enum-told2.given.1),
+    let v = c.before.before.before.before.loop-j.invariant in (
+      (λ n m g s o. seek_pass (v.0 n m g s o) (omega arith) (c.before.check_pair_at-v.ensures n m g s o) c.in_default.is),
       v.1,
       omega arith,
     )
 
-add-i : tie.Need-overflow-add-i invariant-loop decreases-loop invariant-pairs decreases-pairs
+add-i : tie.Need-overflow_step-i invariant-loop decreases-loop invariant-pairs decreases-pairs
 add-i c = omega arith
 
 pairs-less : tie.Need-pairs-smaller invariant-loop decreases-loop invariant-pairs decreases-pairs
@@ -98,23 +96,19 @@ pairs-less c = omega arith
 
 pairs-again : tie.Need-pairs-preserved invariant-loop decreases-loop invariant-pairs decreases-pairs
 pairs-again c =
-    let l = c.before in
-    let v = l.before.before.pairs.invariant in
-    ((λ n m g s o. seek_pass (v.0 n m g s o) (omega arith) (seek_none (l.loop.invariant.0 n m g s o) (omega arith)) refl), l.loop.invariant.1)
+    let v = c.before.before.before.pairs.invariant in
+    ((λ n m g s o. seek_pass (v.0 n m g s o) (omega arith) (seek_none (c.before.loop-j.invariant.0 n m g s o) (omega arith)) refl), c.before.loop-j.invariant.1)
 
-returns : tie.Need-returns invariant-loop decreases-loop invariant-pairs decreases-pairs
+returns : tie.Need-returns-after-pairs invariant-loop decreases-loop invariant-pairs decreases-pairs
 returns c n m g s o = c.before.pairs.invariant.1 ∙ seek_none (c.before.pairs.invariant.0 n m g s o) (omega arith)
 
-returns-2 : tie.Need-returns-2 invariant-loop decreases-loop invariant-pairs decreases-pairs
+returns-2 : tie.Need-returns-in-Refused invariant-loop decreases-loop invariant-pairs decreases-pairs
 returns-2 c n m g s o =
-    let k = c.before.before in
-    let l = k.before.before.before in
-    let p = l.before.before in
-    let e = c.enum_told.given.1 in
-    seek_stop (p.pairs.invariant.0 n m g s o) (omega arith) (seek_stop (l.loop.invariant.0 n m g s o) (omega arith) (k.check-pair-at.ensures n m g s o) e) e
+    let e = c.in-Refused.is in
+    seek_stop (c.before.before.before.before.before.before.pairs.invariant.0 n m g s o) (omega arith) (seek_stop (c.before.before.before.before.loop-j.invariant.0 n m g s o) (omega arith) (c.before.check_pair_at-v.ensures n m g s o) e) e
 
-pub check-pairs-spec : {M : Type 1} → statement M
-check-pairs-spec =
+pub check_pairs_spec : {M : Type 1} → statement M
+check_pairs_spec =
     tie.close
     (tie.spec
     invariant-loop

@@ -5,33 +5,32 @@ use native.Mathlib.Omega.{arith}
 use Rattle.plans.proofs.check_placed.Statement.{statement}
 use Rattle.plans.proofs.check_placed.Tie as tie
 
-slice-aggregate-note-places : tie.Need-slice-aggregate-note-places
+slice-aggregate-note-places : tie.Need-slice_bounds-note_places-end
 slice-aggregate-note-places c = search rules
 
-slice-aggregate-note-places-2 : tie.Need-slice-aggregate-note-places-2
+slice-aggregate-note-places-2 : tie.Need-slice_bounds-note_places-end-2
 slice-aggregate-note-places-2 c = search rules
 
-note-places-requires : tie.Need-note-places-requires
+note-places-requires : tie.Need-note_places-requires
 note-places-requires c κs =
     let h = c.before.before.before.before.requires in
     (h.1, h.1, λ i l. let p = h.0.each i l in omega (arith, p.row_high))
 
-slice-aggregate-check-pairs : tie.Need-slice-aggregate-check-pairs
+slice-aggregate-check-pairs : tie.Need-slice_bounds-check_pairs-end
 slice-aggregate-check-pairs c = search rules
 
-slice-aggregate-check-pairs-2 : tie.Need-slice-aggregate-check-pairs-2
+slice-aggregate-check-pairs-2 : tie.Need-slice_bounds-check_pairs-end-2
 slice-aggregate-check-pairs-2 c = search rules
 
-check-pairs-requires : tie.Need-check-pairs-requires
+check-pairs-requires : tie.Need-check_pairs-requires
 check-pairs-requires c κs =
-    let p = c.before.before.before.before in
-    (p.note-places.ensures, p.before.before.before.before.before.requires.0)
+    (c.before.before.before.before.note_places.ensures, c.before.before.before.before.before.before.before.before.before.requires.0)
 
 returns : tie.Need-returns
-returns c = c.check-pairs.ensures
+returns c = c.check_pairs.ensures
 
-pub check-placed-spec : {M : Type 1} → statement M
-check-placed-spec =
+pub check_placed_spec : {M : Type 1} → statement M
+check_placed_spec =
     tie.close
     (tie.spec
     slice-aggregate-note-places

@@ -8,47 +8,45 @@ use native.Mathlib.Omega.{arith}
 use Rattle.plans.proofs.check_within.Statement.{statement}
 use Rattle.plans.proofs.check_within.Tie as tie
 
-abbrev start : tie.After-list-faults → tie.Start
+abbrev start : tie.After-list_faults-count → tie.Start
 start k = k.before.before.before.before.before.before
 
-room-long : (k : tie.After-list-faults) → length (take k.list-faults.result (start k).args.room.now) ≡ k.list-faults.result
+room-long : (k : tie.After-list_faults-count) → length (take k.list_faults-count.result (start k).args.room.now) ≡ k.list_faults-count.result
 room-long k =
-    length-take-le k.list-faults.result (start k).args.room.now (omega (arith, k.list-faults.ensures.short, (start k).requires.2))
+    length-take-le k.list_faults-count.result (start k).args.room.now (omega (arith, k.list_faults-count.ensures.short, (start k).requires.2))
 
-list-faults-requires : tie.Need-list-faults-requires
+list-faults-requires : tie.Need-list_faults-count-requires
 list-faults-requires c κs = search rules
 
-slice-reshare-prefix-check-listed : tie.Need-slice-reshare-prefix-check-listed
-slice-reshare-prefix-check-listed c = c.before.before.list-faults.ensures.fits
+slice-reshare-prefix-check-listed : tie.Need-slice_bounds-check_listed-end
+slice-reshare-prefix-check-listed c = c.before.before.list_faults-count.ensures.fits
 
-slice-aggregate-check-listed : tie.Need-slice-aggregate-check-listed
-slice-aggregate-check-listed c = c.before.before.before.list-faults.ensures.size
+slice-aggregate-check-listed : tie.Need-slice_bounds-check_listed-end-2
+slice-aggregate-check-listed c = c.before.before.list_faults-count.ensures.size
 
-slice-relend-prefix-check-listed : tie.Need-slice-relend-prefix-check-listed
+slice-relend-prefix-check-listed : tie.Need-slice_bounds-check_listed-end-3
 slice-relend-prefix-check-listed c =
-    let k = c.before.before.before in
-    omega (arith, k.list-faults.ensures.short, (start k).requires.2)
+    omega (arith, c.before.before.list_faults-count.ensures.short, (start c.before.before).requires.2)
 
-slice-aggregate-check-listed-2 : tie.Need-slice-aggregate-check-listed-2
-slice-aggregate-check-listed-2 c = sym (room-long c.before.before.before.before)
+slice-aggregate-check-listed-2 : tie.Need-slice_bounds-check_listed-end-4
+slice-aggregate-check-listed-2 c = sym (room-long c.before.before.before)
 
-check-listed-requires : tie.Need-check-listed-requires
+check-listed-requires : tie.Need-check_listed-requires
 check-listed-requires c κs =
-    let k = c.before.before.before.before in
-    let l = k.list-faults.ensures in
-    ((start k).requires.0, l.front, room-long k ∙ l.size)
+    let l = c.before.before.before.list_faults-count.ensures in
+    ((start c.before.before.before).requires.0, l.front, room-long c.before.before.before ∙ l.size)
 
-same_length : tie.Need-same-length
+same_length : tie.Need-shape_of-starts
 same_length c = search rules
 
-same-length-2 : tie.Need-same-length-2
+same-length-2 : tie.Need-shape_of-room
 same-length-2 c = search rules
 
 returns : tie.Need-returns
 returns c = search rules
 
-pub check-within-spec : {M : Type 1} → statement M
-check-within-spec =
+pub check_within_spec : {M : Type 1} → statement M
+check_within_spec =
     tie.close
     (tie.spec
     list-faults-requires

@@ -20,17 +20,17 @@ some-wrong true fault = refl
 some-wrong false true = refl
 some-wrong false false = refl
 
-is-inner-fault-requires : tie.Need-is-inner-fault-requires
+is-inner-fault-requires : tie.Need-is_inner_fault-fault-requires
 is-inner-fault-requires c κs = search rules
 
-returns : tie.Need-returns
-returns c = rw (c.before.is-inner-fault.ensures, c.if1.true) (none-wrong _)
+returns : tie.Need-returns-then-d-eq0
+returns c = rw (c.before.is_inner_fault-fault.ensures, c.if-d-eq0.true) (none-wrong _)
 
-returns-2 : tie.Need-returns-2
+returns-2 : tie.Need-returns
 returns-2 c =
     let a = c.before.before.args in
-    rw (c.before.is-inner-fault.ensures, ne_eqb _ _ c.if1.false)
+    rw (c.before.is_inner_fault-fault.ensures, ne_eqb _ _ c.if-d-eq0.false)
     (some-wrong (ltb 4 a.d) (inner_faulty a.n a.m a.p a.mark))
 
-pub is-wrong-spec : {M : Type 1} → statement M
-is-wrong-spec = tie.close (tie.spec is-inner-fault-requires returns returns-2)
+pub is_wrong_spec : {M : Type 1} → statement M
+is_wrong_spec = tie.close (tie.spec is-inner-fault-requires returns returns-2)

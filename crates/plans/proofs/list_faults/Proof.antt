@@ -12,59 +12,59 @@ use borrow.Author.Rules.{rules}
 use Rattle.plans.proofs.list_faults.Statement.{statement}
 use Rattle.plans.proofs.list_faults.Tie as tie
 
-abbrev invariant-loop : tie.invariant-loop
+abbrev invariant-loop : tie.invariant-loop-p
 invariant-loop n m grid out₀ count₀ p₀ out count p = Collecting (inner_faulty n m) grid p out₀ out count
 
-abbrev decreases-loop : tie.decreases-loop
+abbrev decreases-loop : tie.decreases-loop-p
 decreases-loop n m grid out₀ count₀ p₀ out count p = 1024 - p
 
-loop-holds : tie.Need-loop-init invariant-loop decreases-loop
+loop-holds : tie.Need-loop-p-init invariant-loop decreases-loop
 loop-holds c = collect_start _ _ _ (omega arith)
 
-shared-slice-read-is-inner-fault : tie.Need-shared-slice-read-is-inner-fault invariant-loop decreases-loop
+shared-slice-read-is-inner-fault : tie.Need-bounds-grid-p invariant-loop decreases-loop
 shared-slice-read-is-inner-fault c = omega arith
 
-is-inner-fault-requires : tie.Need-is-inner-fault-requires invariant-loop decreases-loop
+is-inner-fault-requires : tie.Need-is_inner_fault-requires invariant-loop decreases-loop
 is-inner-fault-requires c κs = search rules
 
-cast-out : tie.Need-overflow-cast-out invariant-loop decreases-loop
+cast-out : tie.Need-overflow_cast-out invariant-loop decreases-loop
 cast-out c = omega arith
 
-mul-out : tie.Need-overflow-mul-out invariant-loop decreases-loop
+mul-out : tie.Need-offset_bounds-out-count invariant-loop decreases-loop
 mul-out c = omega arith
 
-slice-write-out : tie.Need-slice-write-out invariant-loop decreases-loop
+slice-write-out : tie.Need-bounds-out-count invariant-loop decreases-loop
 slice-write-out c = omega arith
 
-add-count : tie.Need-overflow-add-count invariant-loop decreases-loop
+add-count : tie.Need-overflow_add-count invariant-loop decreases-loop
 add-count c = omega arith
 
-add-p : tie.Need-overflow-add-p invariant-loop decreases-loop
+add-p : tie.Need-overflow_step-p invariant-loop decreases-loop
 add-p c = omega arith
 
-loop-less : tie.Need-loop-smaller invariant-loop decreases-loop
+loop-less : tie.Need-loop-p-smaller invariant-loop decreases-loop
 loop-less c = omega arith
 
-loop-again : tie.Need-loop-preserved invariant-loop decreases-loop
+loop-again : tie.Need-loop-p-preserved invariant-loop decreases-loop
 loop-again c =
-    let s = c.before.before.before.before.loop.invariant in
-    let e = c.before.is-inner-fault.ensures in
+    let s = c.before.before.before.before.loop-p.invariant in
+    let e = c.before.is_inner_fault.ensures in
     ⊎_elim
-    (λ w. rw (w.1, w.2) (collect_take s _ (omega arith) (rw e at w.0.taken) refl))
-    (λ w. rw (w.1, w.2) (collect_skip s (omega arith) (rw e at w.0.left)))
-    c.if1.branch
+    (λ w. rw (w.out-is, w.count-is) (collect_take s _ (omega arith) (rw e at w.if-is_inner_fault.true) refl))
+    (λ w. rw (w.out-is, w.count-is) (collect_skip s (omega arith) (rw e at w.if-is_inner_fault.false)))
+    c.if-is_inner_fault.branch-raw
 
-same_length : tie.Need-same-length invariant-loop decreases-loop
-same_length c = c.before.loop.invariant.long
+same_length : tie.Need-shape_of-out invariant-loop decreases-loop
+same_length c = c.before.loop-p.invariant.long
 
 returns : tie.Need-returns invariant-loop decreases-loop
 unfolding faults
 returns c =
-    listing c.before.before.before.before.requires.0 (collect_count c.before.loop.invariant (omega arith))
-    (collect_list c.before.loop.invariant (omega arith))
+    listing c.before.before.before.before.requires.0 (collect_count c.before.loop-p.invariant (omega arith))
+    (collect_list c.before.loop-p.invariant (omega arith))
 
-pub list-faults-spec : {M : Type 1} → statement M
-list-faults-spec =
+pub list_faults_spec : {M : Type 1} → statement M
+list_faults_spec =
     tie.close
     (tie.spec
     invariant-loop

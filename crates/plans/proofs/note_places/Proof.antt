@@ -9,60 +9,58 @@ use native.Mathlib.Omega.{arith}
 use Rattle.plans.proofs.note_places.Statement.{statement}
 use Rattle.plans.proofs.note_places.Tie as tie
 
-abbrev invariant-loop : tie.invariant-loop
+abbrev invariant-loop : tie.invariant-loop-k
 invariant-loop starts rows₀ columns₀ count k₀ rows columns k =
     (k ≤ length starts) × Filling (λ i. row (get_or starts i 0)) (length rows₀) k rows
     × Filling (λ i. column (get_or starts i 0)) (length columns₀) k columns
 
-abbrev decreases-loop : tie.decreases-loop
+abbrev decreases-loop : tie.decreases-loop-k
 decreases-loop starts rows₀ columns₀ count k₀ rows columns k = length starts - k
 
-loop-holds : tie.Need-loop-init invariant-loop decreases-loop
+loop-holds : tie.Need-loop-k-init invariant-loop decreases-loop
 loop-holds c = (omega arith, fill_start _ _ refl, fill_start _ _ refl)
 
-mul-p : tie.Need-overflow-mul-p invariant-loop decreases-loop
+mul-p : tie.Need-offset_bounds-starts-k invariant-loop decreases-loop
 mul-p c = omega arith
 
-shared-slice-read-p : tie.Need-shared-slice-read-p invariant-loop decreases-loop
+shared-slice-read-p : tie.Need-bounds-starts-k invariant-loop decreases-loop
 shared-slice-read-p c = omega arith
 
-cast-rows : tie.Need-overflow-cast-rows invariant-loop decreases-loop
+cast-rows : tie.Need-overflow_cast-rows invariant-loop decreases-loop
 cast-rows c =
-    let l = c.before.before in
-    omega (arith, l.before.requires.2 l.loop.k (omega arith))
+    omega (arith, c.before.before.before.requires.2 c.before.before.loop-k.k (omega arith))
 
-slice-write-rows : tie.Need-slice-write-rows invariant-loop decreases-loop
+slice-write-rows : tie.Need-bounds-rows-k invariant-loop decreases-loop
 slice-write-rows c = omega arith
 
-cast-columns : tie.Need-overflow-cast-columns invariant-loop decreases-loop
+cast-columns : tie.Need-overflow_cast-columns invariant-loop decreases-loop
 cast-columns c = omega arith
 
-slice-write-columns : tie.Need-slice-write-columns invariant-loop decreases-loop
+slice-write-columns : tie.Need-bounds-columns-k invariant-loop decreases-loop
 slice-write-columns c = omega arith
 
-add-k : tie.Need-overflow-add-k invariant-loop decreases-loop
+add-k : tie.Need-overflow_step-k invariant-loop decreases-loop
 add-k c = omega arith
 
-loop-less : tie.Need-loop-smaller invariant-loop decreases-loop
+loop-less : tie.Need-loop-k-smaller invariant-loop decreases-loop
 loop-less c = omega arith
 
-loop-again : tie.Need-loop-preserved invariant-loop decreases-loop
+loop-again : tie.Need-loop-k-preserved invariant-loop decreases-loop
 loop-again c =
-    let l = c.before.before in
-    let v = l.loop.invariant in
+    let v = c.before.before.loop-k.invariant in
     let r = v.1.long in
     let q = v.2.long in
     (omega arith, fill_step v.1 _ (omega arith) refl, fill_step v.2 _ (omega arith) refl)
 
-same_length : tie.Need-same-length invariant-loop decreases-loop
-same_length c = c.before.loop.invariant.1.long
+same_length : tie.Need-shape_of-rows invariant-loop decreases-loop
+same_length c = c.before.loop-k.invariant.1.long
 
-same-length-2 : tie.Need-same-length-2 invariant-loop decreases-loop
-same-length-2 c = c.before.loop.invariant.2.long
+same-length-2 : tie.Need-shape_of-columns invariant-loop decreases-loop
+same-length-2 c = c.before.loop-k.invariant.2.long
 
 returns : tie.Need-returns invariant-loop decreases-loop
 returns c =
-    let v = c.before.loop.invariant in
+    let v = c.before.loop-k.invariant in
     let s = c.before.before.requires in
     record {
       rows_long = omega (arith, s.0, v.1.long);
@@ -71,8 +69,8 @@ returns c =
       column_at = λ i h. v.2.front i (omega arith);
     }
 
-pub note-places-spec : {M : Type 1} → statement M
-note-places-spec =
+pub note_places_spec : {M : Type 1} → statement M
+note_places_spec =
     tie.close
     (tie.spec
     invariant-loop

@@ -10,53 +10,49 @@ use borrow.Author.Rules.{rules}
 use Rattle.plans.proofs.take_directions.Statement.{statement}
 use Rattle.plans.proofs.take_directions.Tie as tie
 
-abbrev invariant-loop : tie.invariant-loop
+abbrev invariant-loop : tie.invariant-loop-k
 invariant-loop directions starts out₀ count k₀ out k = Filling (taken_at directions starts) (length starts) k out
 
-abbrev decreases-loop : tie.decreases-loop
+abbrev decreases-loop : tie.decreases-loop-k
 decreases-loop directions starts out₀ count k₀ out k = length starts - k
 
-loop-holds : tie.Need-loop-init invariant-loop decreases-loop
+loop-holds : tie.Need-loop-k-init invariant-loop decreases-loop
 loop-holds c = fill_start _ _ (omega arith)
 
-mul_wide : tie.Need-overflow-mul-wide invariant-loop decreases-loop
+mul_wide : tie.Need-offset_bounds-starts-k invariant-loop decreases-loop
 mul_wide c = omega arith
 
-shared-slice-read-wide : tie.Need-shared-slice-read-wide invariant-loop decreases-loop
+shared-slice-read-wide : tie.Need-bounds-starts-k invariant-loop decreases-loop
 shared-slice-read-wide c = omega arith
 
 wide-requires : tie.Need-wide-requires invariant-loop decreases-loop
 wide-requires c κs = search rules
 
-shared-slice-read-out : tie.Need-shared-slice-read-out invariant-loop decreases-loop
+shared-slice-read-out : tie.Need-bounds-directions-wide invariant-loop decreases-loop
 shared-slice-read-out c =
-    let w = c.before in
-    let l = w.before.before.before in
-    omega (arith, w.wide.ensures, l.before.before.before.before.requires.1 l.loop.k (omega arith))
+    omega (arith, c.before.wide.ensures, c.before.before.before.before.before.before.before.before.requires.1 c.before.before.before.before.loop-k.k (omega arith))
 
-slice-write-out : tie.Need-slice-write-out invariant-loop decreases-loop
+slice-write-out : tie.Need-bounds-out-k invariant-loop decreases-loop
 slice-write-out c = omega arith
 
-add-k : tie.Need-overflow-add-k invariant-loop decreases-loop
+add-k : tie.Need-overflow_step-k invariant-loop decreases-loop
 add-k c = omega arith
 
-loop-less : tie.Need-loop-smaller invariant-loop decreases-loop
+loop-less : tie.Need-loop-k-smaller invariant-loop decreases-loop
 loop-less c = omega arith
 
-loop-again : tie.Need-loop-preserved invariant-loop decreases-loop
+loop-again : tie.Need-loop-k-preserved invariant-loop decreases-loop
 loop-again c =
-    let w = c.before in
-    let l = w.before.before.before in
-    fill_step l.loop.invariant _ (omega arith) (ap (λ (x : ℕ). get_or l.before.before.before.before.args.directions.now x 0) w.wide.ensures)
+    fill_step c.before.before.before.before.loop-k.invariant _ (omega arith) (ap (λ (x : ℕ). get_or c.before.before.before.before.before.before.before.before.args.directions.now x 0) c.before.wide.ensures)
 
-same_length : tie.Need-same-length invariant-loop decreases-loop
-same_length c = omega (arith, c.before.loop.invariant.long)
+same_length : tie.Need-shape_of-out invariant-loop decreases-loop
+same_length c = omega (arith, c.before.loop-k.invariant.long)
 
 returns : tie.Need-returns invariant-loop decreases-loop
-returns c = fill_end c.before.loop.invariant (omega arith) ∙ directions_filled _ _
+returns c = fill_end c.before.loop-k.invariant (omega arith) ∙ directions_filled _ _
 
-pub take-directions-spec : {M : Type 1} → statement M
-take-directions-spec =
+pub take_directions_spec : {M : Type 1} → statement M
+take_directions_spec =
     tie.close
     (tie.spec
     invariant-loop
