@@ -13,7 +13,7 @@ import re
 import sys
 
 TOKEN = re.compile(r'--[^\n]*|[^\s(){}\[\],;."`]+')
-HEAD = re.compile(r"^ {0,2}(?:(?:pub|abbrev|unfoldable)\s+)*(?!use\b|module\b|let\b|record\b|data\b|in\b)([^\s:(){}]+)\s*:(?=\s)", re.M)
+HEAD = re.compile(r"^ {0,2}(?:(?:pub|abbrev|unfoldable)\s+)*(?!(?:use|module|let|record|data|in)\s)([^\s:(){}]+)\s*:(?=\s)", re.M)
 MODULE = re.compile(r"^module _ (.*?) where$", re.M | re.S)
 KINDS = ("", "overflow-", "nonzero-", "bounds-", "slice-bounds-")
 plain = lambda it: it.replace("_", "-")
@@ -68,6 +68,7 @@ class Function:
 
 
 LET = re.compile(r"\blet\s+([^\s:=]+)\s*=\s*([^\s.()]+)((?:\.before)*)\s+in\b[ \t]*\n?[ \t]*")
+CALLED = re.compile(r"\blet\s+([^\s:=]+)\s*=\s*([^\s.()]+)(?:\s+[^\s()]+)+\s+in\b")
 AT_START = {"args", "requires", "ranges", "lifetimes", "well_formed", "pre"}
 
 
@@ -97,7 +98,7 @@ def arrows(text):
 
 def records(head, name, function):
     """For a declaration: the place of each explicit parameter that is a record of a place, by index, and that of its result."""
-    m = re.match(r"(?:(?:pub|abbrev|unfoldable)\s+)*[^\s:]+\s*:(.*)", head, re.S)
+    m = re.match(r"\s*(?:(?:pub|abbrev|unfoldable)\s+)*[^\s:]+\s*:(.*)", head, re.S)
     if not m:
         return {}, None
     parts = arrows(m.group(1))
@@ -138,7 +139,7 @@ def turn_block(block, function, words, said, helpers, of_module):
         for it in names.split():
             if place_in(kind, function):
                 given[it] = place_in(kind, function)
-    head, given = without_lets(head, given)
+    head, given = without_lets(head, given, helpers)
     bases = dict(of_module)
     if body:
         left = re.match(r"[^=]*?=", body)
@@ -146,17 +147,20 @@ def turn_block(block, function, words, said, helpers, of_module):
         for k, place in found.items():
             if k < len(arguments):
                 bases[arguments[k]] = place
-        body, bases = without_lets(body, bases)
+        body, bases = without_lets(body, bases, helpers)
     head = walk(head, function, given, None, words, said, helpers)
     return head + walk(body, function, bases, result, words, said, helpers)
 
 
-def without_lets(text, bases):
+def without_lets(text, bases, helpers):
     """The text with each name that is a record of a place, or one before it, written as the name of the first."""
     bases = dict(bases)
     while True:
         hit = next((l for l in LET.finditer(text) if l.group(2) in bases), None)
         if not hit:
+            for call in CALLED.finditer(text):
+                if helpers.get(call.group(2), ({}, None))[1]:
+                    bases[call.group(1)] = helpers[call.group(2)][1]
             return text, bases
         text = text[: hit.start()] + text[hit.end() :]
         text = re.sub(r"(?<![\w.'-])" + re.escape(hit.group(1)) + r"(?![\w'-])", hit.group(2), text)
@@ -186,6 +190,8 @@ def walk(block, function, bases, result, words, said, helpers):
         projected = t.start() and block[t.start() - 1] == "."
         if word in bases and not projected:
             new, used = path(block, tokens, k, function, bases[word], result, words, said, helpers)
+        elif projected and called_before(block, t.start() - 1, helpers):
+            new, used = after_call(block, tokens, k, function, called_before(block, t.start() - 1, helpers), words, said)
         elif not projected or block[max(0, t.start() - 4) : t.start()] == "tie.":
             new = of_tie(block, t, word, function, said)
         elif "-" in word and plain(word) in words:
@@ -227,28 +233,69 @@ def path(block, tokens, k, function, base, result, words, said, helpers):
         if used > 1:
             said.append("where: " + block[tokens[k].start() : tokens[k + used - 1].end()])
         return None, used
+    new = projections(base, fields, function, words)
+    if new is None:
+        said.append("no step: " + block[tokens[k].start() : tokens[k + used - 1].end()])
+        return None, used
+    return name + new, used
+
+
+def projections(base, fields, function, words):
+    """The new projections from the record of a place, for the old ones."""
+    while fields and fields[0] == "before":
+        fields = fields[1:]
+    if not fields:
+        return None
+    way = ancestors(base, function)
     key = plain(fields[0])
+
+    def up(place, *rest):
+        return ".before" * way.index(place) + "".join("." + it for it in rest)
+
     if fields[0] in AT_START or key.startswith(("fits-", "told-")):
-        rest = ["requires" if fields[0] == "pre" else fields[0].replace("well-formed", "well_formed")] + fields[1:]
-        return ".".join([up(way[-1])] + respelled(rest, words)), used
+        first = "requires" if fields[0] == "pre" else fields[0].replace("well-formed", "well_formed")
+        return up(way[-1], first, *respelled(fields[1:], words))
     for place in way:
         new = function.step[place][1] if place in function.step else None
+        rest = fields[1:]
         arms = [a for a in function.arms.get(place, []) if a[1] == key]
-        if arms:
-            rest = fields[1:]
-            for field, _, arm in sorted(arms, key=lambda a: -len(a[2])):
-                if [plain(f) for f in rest[: len(arm)]] == arm:
-                    return ".".join([up(place), function.arm_name[place], field] + respelled(rest[len(arm) :], words)), used
+        for field, _, arm in sorted(arms, key=lambda a: -len(a[2])):
+            if [plain(f) for f in rest[: len(arm)]] == arm:
+                return up(place, function.arm_name[place], field, *respelled(rest[len(arm) :], words))
         if place in function.step and function.step[place][0] == key:
-            rest = fields[1:]
             parts = function.parts[place]
+            if rest and rest[0] == "inv":
+                rest = ["invariant"] + rest[1:]
             if rest and plain(rest[0]) in parts:
                 rest = [parts[plain(rest[0])]] + rest[1:]
-            if rest and rest[0] == "new":
+            if rest and rest[0] in ("new", "auto"):
                 rest = last_values(rest, function.callee.get(place), function)
-            return ".".join([up(place), new] + respelled(rest, words)), used
-    said.append("no step: " + block[tokens[k].start() : tokens[k + used - 1].end()])
-    return None, used
+            return up(place, new, *respelled(rest, words))
+    return None
+
+
+def called_before(block, dot, helpers):
+    """The place that a call in parentheses answers, which ends before this dot."""
+    if dot < 1 or block[dot - 1] != ")":
+        return None
+    depth, k = 0, dot - 1
+    while k >= 0:
+        depth += (block[k] == ")") - (block[k] == "(")
+        if depth == 0:
+            break
+        k -= 1
+    m = re.match(r"\(([^\s().]+)\s", block[k:])
+    return helpers.get(m.group(1), ({}, None))[1] if m else None
+
+
+def after_call(block, tokens, k, function, base, words, said):
+    """The projections of what a call answers; token k is the first of them."""
+    fields = [tokens[k].group(0)] + fields_after(block, tokens, k)
+    new = projections(base, fields, function, words)
+    if new is None:
+        said.append("no step: (..)." + ".".join(fields))
+        return None, len(fields)
+    return new.lstrip("."), len(fields)
 
 
 def last_values(rest, callee, function):
@@ -258,7 +305,7 @@ def last_values(rest, callee, function):
         n += 1
     names = function.params.get(callee, [])
     if n < len(rest) and rest[n] == "0" and n - 1 < len(names):
-        return ["new", names[n - 1]] + rest[n + 1 :]
+        return [rest[0], names[n - 1]] + rest[n + 1 :]
     return rest
 
 

@@ -64,10 +64,11 @@ record Fine (w : View) (i j : ℕ) (from to : Place) (r : Run) : Type 0 where
 
 fine_right : (w : View) (i j : ℕ) (from to : Place) (r : Run) → placed w i j ≡ from → placed w i (suc j) ≡ to → Fine w i j from to r → Right w i j
 fine_right w i j from to r e f g =
+    let same : link w i j ≡ r = rw e g.is_run in
     record {
       arrives = rw (e, f, g.is_run) g.arrives;
       short = rw (e, g.is_run) g.short;
-      owned = rw (e, g.is_run) (g.first, g.owned);
+      owned = (rw e g.first, subst (λ s. Owned w i j (ports s)) (sym same) g.owned);
       passes = rw (e, g.is_run) g.passes;
     }
 

@@ -6,23 +6,23 @@ use Rattle.counters.proofs.Altering.{raised, full}
 use Rattle.counters.proofs.alter.Statement.{statement}
 use Rattle.counters.proofs.alter.Tie as tie
 
-add-result : tie.Need-overflow-add-result
+add-result : tie.Need-overflow_add-result
 add-result c = search rules
 
-returns : tie.Need-returns
-returns c = raised _ _ c.before.if1.true (omega arith)
+returns : tie.Need-returns-then-counter-lt255
+returns c = raised _ _ c.before.if-up.true (omega arith)
 
-returns-2 : tie.Need-returns-2
-returns-2 c = full _ _ c.before.if1.true (omega arith)
+returns-2 : tie.Need-returns-then-up
+returns-2 c = full _ _ c.before.if-up.true (omega arith)
 
-sub-result : tie.Need-overflow-sub-result
+sub-result : tie.Need-overflow_sub-result
 sub-result c = search rules
 
-returns-3 : tie.Need-returns-3
-returns-3 c = rw c.before.if1.false
+returns-3 : tie.Need-returns-then-counter-gt0
+returns-3 c = rw c.before.if-up.false
 
-returns-4 : tie.Need-returns-4
-returns-4 c = rw c.before.if1.false (omega arith)
+returns-4 : tie.Need-returns
+returns-4 c = rw c.before.if-up.false (omega arith)
 
-pub alter-spec : {M : Type 1} → statement M
-alter-spec = tie.close (tie.spec add-result returns returns-2 sub-result returns-3 returns-4)
+pub alter_spec : {M : Type 1} → statement M
+alter_spec = tie.close (tie.spec add-result returns returns-2 sub-result returns-3 returns-4)

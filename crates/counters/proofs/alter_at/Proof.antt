@@ -11,66 +11,63 @@ use Rattle.counters.proofs.alter_at.Statement.{statement}
 use Rattle.counters.proofs.alter_at.Tie as tie
 
 -- where p is another inner position than q
-module _ (c : tie.Else1) where
+module _ (c : tie.Else-is_inner-p) where
   abbrev s : tie.Start
   s = c.before.before
 
   other : (inner s.args.n s.args.m s.args.p ≡ true) × (s.args.p ≡ s.args.q → ⊥)
   other =
       tested s.args.n s.args.m s.args.up s.args.q s.args.e s.args.d s.args.p s.args.counter
-      c.before.is-inner.ensures c.if1.false
+      c.before.is_inner.ensures c.if-is_inner-p.false
 
   apart : s.args.p ≡ s.args.q → ⊥
   apart = other.1
 
   start : Start s.args.n s.args.m s.args.p s.args.d
   start =
-      let q = s.pre.1 in
-      record { rows = q.rows; columns = q.columns; at = other.0; low = s.pre.2; high = s.pre.3 }
+      let q = s.requires.1 in
+      record { rows = q.rows; columns = q.columns; at = other.0; low = s.requires.2; high = s.requires.3 }
 
-is-inner-requires : tie.Need-is-inner-requires
+is-inner-requires : tie.Need-is_inner-requires
 is-inner-requires c κs = search rules
 
-returns : tie.Need-returns
+returns : tie.Need-returns-then-is_inner-p
 returns c =
-    let s = c.before.before in
-    not_tested s.args.n s.args.m s.args.up s.args.q s.args.e s.args.d s.args.p s.args.counter
-    c.before.is-inner.ensures c.if1.true
+    not_tested c.before.before.args.n c.before.before.args.m c.before.before.args.up c.before.before.args.q c.before.before.args.e c.before.before.args.d c.before.before.args.p c.before.before.args.counter
+    c.before.is_inner.ensures c.if-is_inner-p.true
 
-cast-find-entry : tie.Need-overflow-cast-find-entry
+cast-find-entry : tie.Need-overflow_cast-p
 cast-find-entry c = let h = (start_path (start c)).row_high in record { fits = omega arith }
 
-cast-find-entry-2 : tie.Need-overflow-cast-find-entry-2
+cast-find-entry-2 : tie.Need-overflow_cast-p-2
 cast-find-entry-2 c = search rules
 
-cast-find-entry-3 : tie.Need-overflow-cast-find-entry-3
+cast-find-entry-3 : tie.Need-overflow_cast-q
 cast-find-entry-3 c = let h = (start_path (s c).requires.1).row_high in record { fits = omega arith }
 
-cast-find-entry-4 : tie.Need-overflow-cast-find-entry-4
+cast-find-entry-4 : tie.Need-overflow_cast-q-2
 cast-find-entry-4 c = search rules
 
-find-entry-requires : tie.Need-find-entry-requires
+find-entry-requires : tie.Need-find_entry-found-requires
 find-entry-requires c κs = ((s c).requires.0, start_path (start c), start_path (s c).requires.1)
 
-returns-2 : tie.Need-returns-2
+returns-2 : tie.Need-returns-then-found-eq-CLEAR
 returns-2 c =
-    let t = c.before.before in
-    let a = (s t).args in
-    clear_same a.n a.m a.up a.q a.e a.d a.p a.counter (start t) (s t).requires.1 (apart t)
-    c.before.find-entry.ensures c.if2.true
+    let a = (s c.before.before).args in
+    clear_same a.n a.m a.up a.q a.e a.d a.p a.counter (start c.before.before) (s c.before.before).requires.1 (apart c.before.before)
+    c.before.find_entry-found.ensures c.if-found-eq-CLEAR.true
 
 alter-requires : tie.Need-alter-requires
 alter-requires c κs = search rules
 
-returns-3 : tie.Need-returns-3
+returns-3 : tie.Need-returns
 returns-3 c =
-    let t = c.before.before.before in
-    let a = (s t).args in
-    clash_altered a.n a.m a.up a.q a.e a.d a.p a.counter (start t) (s t).requires.1 (apart t)
-    c.before.before.find-entry.ensures c.before.if2.false c.alter.ensures
+    let a = (s c.before.before.before).args in
+    clash_altered a.n a.m a.up a.q a.e a.d a.p a.counter (start c.before.before.before) (s c.before.before.before).requires.1 (apart c.before.before.before)
+    c.before.before.find_entry-found.ensures c.before.if-found-eq-CLEAR.false c.alter.ensures
 
-pub alter-at-spec : {M : Type 1} → statement M
-alter-at-spec =
+pub alter_at_spec : {M : Type 1} → statement M
+alter_at_spec =
     tie.close
     (tie.spec
     is-inner-requires

@@ -10,42 +10,39 @@ use Rattle.follower.proofs.advance.Tie as tie
 abbrev of : tie.Start → Wafer
 of s = let a = s.args in wafer a.n a.m a.grid.now a.directions.now a.across.now a.down.now
 
-stretch-from-requires : tie.Need-stretch-from-requires
+stretch-from-requires : tie.Need-stretch_from-s-requires
 stretch-from-requires c κs = search rules
 
-enum-known-s : tie.Need-enum-known-s
+enum-known-s : tie.Need-enum_known-s
 enum-known-s c = search rules
 
-enum_told : tie.Need-enum-told
+enum_told : tie.Need-enum_told-1
 enum_told c = search rules
 
 refuse-requires : tie.Need-refuse-requires
 refuse-requires c κs = search rules
 
-returns : tie.Need-returns
+returns : tie.Need-returns-in_default
 unfolding stretch_from
 returns c =
-    let s = c.before.before.before.before.before.before.before.before in
-    let v = s.args.walk in
-    let f = rw c.before.enum_told.given.1 at c.before.before.before.stretch_from.ensures in
-    no_way (of s) (port_of v.port) v.last v.passed f.is c.refuse.ensures
+    let v = c.before.before.before.before.before.before.before.before.args.walk in
+    let f = rw c.before.in_default.is at c.before.before.stretch_from-s.ensures in
+    no_way (of c.before.before.before.before.before.before.before.before) (port_of v.port) v.last v.passed f.is c.refuse.ensures
 
 enter-requires : tie.Need-enter-requires
 enter-requires c κs =
-    let s = c.before.before.before.before.before.before.before.before in
-    let f = rw c.before.s.given.1 at c.before.before.before.stretch_from.ensures in
-    (s.requires.0, f.sound, s.requires.1.few)
+    let f = rw c.in-To.is at c.before.stretch_from-s.ensures in
+    (c.before.before.before.before.before.before.before.requires.0, f.sound, c.before.before.before.before.before.before.before.requires.1.few)
 
-returns-2 : tie.Need-returns-2
+returns-2 : tie.Need-returns
 unfolding stretch_from
 returns-2 c =
-    let s = c.before.before.before.before.before.before.before.before.before in
-    let v = s.args.walk in
-    let f = rw c.before.before.s.given.1 at c.before.before.before.before.stretch_from.ensures in
-    on_way (of s) (port_of v.port) v.last v.passed _ f.is c.enter.ensures
+    let v = c.before.before.before.before.before.before.before.before.args.walk in
+    let f = rw c.before.in-To.is at c.before.before.stretch_from-s.ensures in
+    on_way (of c.before.before.before.before.before.before.before.before) (port_of v.port) v.last v.passed _ f.is c.enter.ensures
 
-pub advance-spec : {M : Type 1} → statement M
-advance-spec =
+pub advance_spec : {M : Type 1} → statement M
+advance_spec =
     tie.close
     (tie.spec
     stretch-from-requires

@@ -22,45 +22,45 @@ both n m p h =
     let south = stands_between n m (row p + 1) (column p) (omega arith) (omega arith) (inr (i.column_low, i.column_high)) in
     (rw (here, east), rw (here, south))
 
-is-inner-requires : tie.Need-is-inner-requires
+is-inner-requires : tie.Need-is_inner-requires
 is-inner-requires c κs = search rules
 
-is-switch-byte-requires : tie.Need-is-switch-byte-requires
+is-switch-byte-requires : tie.Need-is_switch_byte-requires
 is-switch-byte-requires c κs = search rules
 
-is-switch-byte-requires-2 : tie.Need-is-switch-byte-requires-2
+is-switch-byte-requires-2 : tie.Need-is_switch_byte-requires-then-is_inner
 is-switch-byte-requires-2 c κs = search rules
 
-returns : tie.Need-returns
+returns : tie.Need-returns-then-is_inner
 returns c =
     let a = c.before.before.before.before.args in
-    let b = both a.n a.m a.p (sym c.before.before.before.is-inner.ensures ∙ c.before.before.if1.true) in
-    rw (c.before.is-switch-byte.ensures, c.is-switch-byte2.ensures, b.0, b.1)
+    let b = both a.n a.m a.p (sym c.before.before.before.is_inner.ensures ∙ c.before.before.if-is_inner.true) in
+    rw (c.before.is_switch_byte.ensures, c.is_switch_byte-then-is_inner.ensures, b.0, b.1)
 
-is-standing-requires : tie.Need-is-standing-requires
+is-standing-requires : tie.Need-is_standing-across-requires
 is-standing-requires c κs = search rules
 
-is-standing-requires-2 : tie.Need-is-standing-requires-2
+is-standing-requires-2 : tie.Need-is_standing-down-requires
 is-standing-requires-2 c κs = search rules
 
-is-switch-byte-requires-3 : tie.Need-is-switch-byte-requires-3
+is-switch-byte-requires-3 : tie.Need-is_switch_byte-requires-2
 is-switch-byte-requires-3 c κs = search rules
 
-is-switch-byte-requires-4 : tie.Need-is-switch-byte-requires-4
+is-switch-byte-requires-4 : tie.Need-is_switch_byte-requires-3
 is-switch-byte-requires-4 c κs = search rules
 
-returns-2 : tie.Need-returns-2
+returns-2 : tie.Need-returns
 unfolding stands
 returns-2 c =
     rw (
-      c.before.is-switch-byte3.ensures,
-      c.is-switch-byte4.ensures,
-      c.before.before.before.is-standing.ensures,
-      c.before.before.is-standing2.ensures,
+      c.before.is_switch_byte-2.ensures,
+      c.is_switch_byte-3.ensures,
+      c.before.before.before.is_standing-across.ensures,
+      c.before.before.is_standing-down.ensures,
     )
 
-pub are-switch-bytes-spec : {M : Type 1} → statement M
-are-switch-bytes-spec =
+pub are_switch_bytes_spec : {M : Type 1} → statement M
+are_switch_bytes_spec =
     tie.close
     (tie.spec
     is-inner-requires

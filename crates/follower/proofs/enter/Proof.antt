@@ -10,50 +10,46 @@ use Rattle.follower.proofs.enter.Tie as tie
 abbrev of : tie.Start → Wafer
 of s = let a = s.args in wafer a.n a.m a.grid.now a.directions.now a.across.now a.down.now
 
-inside-at-requires : tie.Need-inside-at-requires
+inside-at-requires : tie.Need-inside_at-v-requires
 inside-at-requires c κs = search rules
 
-enum_told : tie.Need-enum-told
+enum_told : tie.Need-enum_told-1
 enum_told c = search rules
 
 land-requires : tie.Need-land-requires
 land-requires c κs = search rules
 
-enum-known-v : tie.Need-enum-known-v
+enum-known-v : tie.Need-enum_known-v
 enum-known-v c = search rules
 
 pass-requires : tie.Need-pass-requires
 pass-requires c κs =
-    let s = c.before.before.before.before.before.before.before.before in
-    let f = rw c.before.v.given.1 at c.before.before.before.inside-at.ensures in
-    (s.requires.1, f.sound, s.requires.2)
+    let f = rw c.in-On.is at c.before.inside_at-v.ensures in
+    (c.before.before.before.before.before.before.requires.1, f.sound, c.before.before.before.before.before.before.requires.2)
 
-enum-told-2 : tie.Need-enum-told-2
+enum-told-2 : tie.Need-enum_told-in-Stops
 enum-told-2 c = search rules
 
 stop-requires : tie.Need-stop-requires
 stop-requires c κs = search rules
 
-returns : tie.Need-returns
+returns : tie.Need-returns-in-Ends
 returns c =
-    let s = c.before.before.before.before.before.before.before.before in
-    let a = s.args in
-    let f = rw c.before.enum_told.given.1 at c.before.before.before.inside-at.ensures in
-    at_end (of s) (port_of a.port) a.last a.passed f.is c.land.ensures
+    let a = c.before.before.before.before.before.before.before.args in
+    let f = rw c.before.in-Ends.is at c.before.before.inside_at-v.ensures in
+    at_end (of c.before.before.before.before.before.before.before) (port_of a.port) a.last a.passed f.is c.land.ensures
 
-returns-2 : tie.Need-returns-2
+returns-2 : tie.Need-returns-in-On
 returns-2 c =
-    let s = c.before.before.before.before.before.before.before.before.before in
-    let a = s.args in
-    let f = rw c.before.before.v.given.1 at c.before.before.before.before.inside-at.ensures in
-    at_join (of s) (port_of a.port) a.last a.passed _ f.is (c.pass.ensures (of s))
+    let a = c.before.before.before.before.before.before.before.args in
+    let f = rw c.before.in-On.is at c.before.before.inside_at-v.ensures in
+    at_join (of c.before.before.before.before.before.before.before) (port_of a.port) a.last a.passed _ f.is (c.pass.ensures (of c.before.before.before.before.before.before.before))
 
-returns-3 : tie.Need-returns-3
+returns-3 : tie.Need-returns-in-Stops
 returns-3 c =
-    let s = c.before.before.before.before.before.before.before.before in
-    let a = s.args in
-    let f = rw c.before.enum-told2.given.1 at c.before.before.before.inside-at.ensures in
-    at_stop (of s) (port_of a.port) a.last a.passed f.is (c.stop.ensures a.grid.now)
+    let a = c.before.before.before.before.before.before.before.args in
+    let f = rw c.before.in-Stops.is at c.before.before.inside_at-v.ensures in
+    at_stop (of c.before.before.before.before.before.before.before) (port_of a.port) a.last a.passed f.is (c.stop.ensures a.grid.now)
 
 pub enter_spec : {M : Type 1} → statement M
 enter_spec =

@@ -13,55 +13,52 @@ use native.Mathlib.Omega.{arith}
 use Rattle.follower.proofs.inside_at.Statement.{statement}
 use Rattle.follower.proofs.inside_at.Tie as tie
 
-mul-p : tie.Need-overflow-mul-p
+mul-p : tie.Need-overflow_mul-p
 mul-p c = search rules
 
-add-p : tie.Need-overflow-add-p
+add-p : tie.Need-overflow_add-p
 add-p c = search rules
 
-shared-slice-read-processor-join : tie.Need-shared-slice-read-processor-join
+shared-slice-read-processor-join : tie.Need-bounds-grid-p
 shared-slice-read-processor-join c = search rules
 
-shared-slice-read-processor-join-2 : tie.Need-shared-slice-read-processor-join-2
+shared-slice-read-processor-join-2 : tie.Need-bounds-directions-p
 shared-slice-read-processor-join-2 c = search rules
 
-processor-join-requires : tie.Need-processor-join-requires
+processor-join-requires : tie.Need-processor_join-requires
 processor-join-requires c κs = search rules
 
-returns : tie.Need-returns
+returns : tie.Need-returns-then-kind-eq0
 returns c =
-    let s = c.before.before.before.before.before.before.before.before.before.before in
-    let a = s.args in
+    let a = c.before.before.before.before.before.before.before.before.before.before.args in
     let p = position a.port.row a.port.column in
-    finds_processor _ a.port _ c.before.before.before.if1.true
-    (c.processor-join.ensures
+    finds_processor _ a.port _ c.before.before.before.if-kind-eq0.true
+    (c.processor_join.ensures
     ∙ ap (λ (x : ℕ). processor_joins (inner_faulty a.n a.m p x) (dead_mark x) (get_or a.directions.now p 0) (compass a.port.side))
     (sym (mark_read a.grid.now p (omega arith))))
 
-shared-slice-read-switch-join : tie.Need-shared-slice-read-switch-join
+shared-slice-read-switch-join : tie.Need-bounds-across-p
 shared-slice-read-switch-join c = search rules
 
-switch-join-requires : tie.Need-switch-join-requires
+switch-join-requires : tie.Need-switch_join-requires
 switch-join-requires c κs = search rules
 
-returns-2 : tie.Need-returns-2
+returns-2 : tie.Need-returns-then-kind-eq1
 returns-2 c =
-    let s = c.before.before.before.before.before.before.before.before.before.before in
-    finds_across _ s.args.port _ c.before.before.if2.true refl c.switch-join.ensures
+    finds_across _ c.before.before.before.before.before.before.before.before.before.before.args.port _ c.before.before.if-kind-eq1.true refl c.switch_join.ensures
 
-shared-slice-read-switch-join-2 : tie.Need-shared-slice-read-switch-join-2
+shared-slice-read-switch-join-2 : tie.Need-bounds-down-p
 shared-slice-read-switch-join-2 c = search rules
 
-switch-join-requires-2 : tie.Need-switch-join-requires-2
+switch-join-requires-2 : tie.Need-switch_join-requires-2
 switch-join-requires-2 c κs = search rules
 
-returns-3 : tie.Need-returns-3
+returns-3 : tie.Need-returns
 returns-3 c =
-    let s = c.before.before.before.before.before.before.before.before.before.before in
-    finds_down _ s.args.port _ (omega arith) refl c.switch-join2.ensures
+    finds_down _ c.before.before.before.before.before.before.before.before.before.before.args.port _ (omega arith) refl c.switch_join-2.ensures
 
-pub inside-at-spec : {M : Type 1} → statement M
-inside-at-spec =
+pub inside_at_spec : {M : Type 1} → statement M
+inside_at_spec =
     tie.close
     (tie.spec
     mul-p

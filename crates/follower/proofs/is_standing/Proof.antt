@@ -19,47 +19,47 @@ unfolding stands
 none-stands n m kind x y h =
     by_bool (eqb kind 0) (λ t. rw (t, h)) (λ t. by_bool (eqb kind 1) (λ u. rw (t, u, h)) (λ u. rw (t, u, h)))
 
-is-processor-at-requires : tie.Need-is-processor-at-requires
+is-processor-at-requires : tie.Need-is_processor_at-requires
 is-processor-at-requires c κs = search rules
 
-here : (c : tie.Else1) → let a = c.before.before.args in processor_at a.n a.m a.x a.y ≡ true
-here c = sym c.before.is-processor-at.ensures ∙ not-false _ c.if1.false
+here : (c : tie.Else-not-is_processor_at) → let a = c.before.before.args in processor_at a.n a.m a.x a.y ≡ true
+here c = sym c.before.is_processor_at.ensures ∙ not-false _ c.if-not-is_processor_at.false-raw
 
-returns : tie.Need-returns
-returns c = none-stands _ _ c.before.before.args.kind _ _ (sym c.before.is-processor-at.ensures ∙ not-true _ c.if1.true)
+returns : tie.Need-returns-then-not-is_processor_at
+returns c = none-stands _ _ c.before.before.args.kind _ _ (sym c.before.is_processor_at.ensures ∙ not-true _ c.if-not-is_processor_at.true-raw)
 
-returns-2 : tie.Need-returns-2
+returns-2 : tie.Need-returns-then-kind-eq0
 unfolding stands
-returns-2 c = rw (c.if2.true, here c.before)
+returns-2 c = rw (c.if-kind-eq0.true, here c.before)
 
-add-is-processor-at : tie.Need-overflow-add-is-processor-at
+add-is-processor-at : tie.Need-overflow_add-y
 add-is-processor-at c = search rules
 
-is-processor-at-requires-2 : tie.Need-is-processor-at-requires-2
+is-processor-at-requires-2 : tie.Need-is_processor_at-requires-then-kind-eq1
 is-processor-at-requires-2 c κs = search rules
 
-returns-3 : tie.Need-returns-3
+returns-3 : tie.Need-returns-then-kind-eq1
 unfolding stands
-returns-3 c = rw (c.before.if3.true, here c.before.before.before, c.is-processor-at2.ensures)
+returns-3 c = rw (c.before.if-kind-eq1.true, here c.before.before.before, c.is_processor_at-then-kind-eq1.ensures)
 
-add-is-processor-at-2 : tie.Need-overflow-add-is-processor-at-2
+add-is-processor-at-2 : tie.Need-overflow_add-x
 add-is-processor-at-2 c = search rules
 
-is-processor-at-requires-3 : tie.Need-is-processor-at-requires-3
+is-processor-at-requires-3 : tie.Need-is_processor_at-requires-2
 is-processor-at-requires-3 c κs = search rules
 
-returns-4 : tie.Need-returns-4
+returns-4 : tie.Need-returns
 unfolding stands
 returns-4 c =
     simp (
-      ne_eqb _ _ c.before.before.if2.false,
-      ne_eqb _ _ c.before.if3.false,
+      ne_eqb _ _ c.before.before.if-kind-eq0.false,
+      ne_eqb _ _ c.before.if-kind-eq1.false,
       here c.before.before.before,
-      c.is-processor-at3.ensures,
+      c.is_processor_at-2.ensures,
     )
 
-pub is-standing-spec : {M : Type 1} → statement M
-is-standing-spec =
+pub is_standing_spec : {M : Type 1} → statement M
+is_standing_spec =
     tie.close
     (tie.spec
     is-processor-at-requires

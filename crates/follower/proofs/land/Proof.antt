@@ -18,37 +18,35 @@ read : (s : tie.Start) {r : Bool} → let p = position s.args.port.row s.args.po
     r ≡ faulty_mark (get_or s.args.grid.now p 0) → r ≡ faulty s.args.grid.now p
 read s e = e ∙ sym (faulty_read s.args.grid.now _ (omega (arith, s.requires.0, s.requires.1.rows, s.requires.1.columns)))
 
-mul-place : tie.Need-overflow-mul-place
+mul-place : tie.Need-overflow_mul-place
 mul-place c = search rules
 
-add-place : tie.Need-overflow-add-place
+add-place : tie.Need-overflow_add-place
 add-place c = search rules
 
-shared-slice-read-is-faulty : tie.Need-shared-slice-read-is-faulty
+shared-slice-read-is-faulty : tie.Need-bounds-grid-place
 shared-slice-read-is-faulty c = search rules
 
-is-faulty-requires : tie.Need-is-faulty-requires
+is-faulty-requires : tie.Need-is_faulty-requires
 is-faulty-requires c κs = search rules
 
 refuse-requires : tie.Need-refuse-requires
 refuse-requires c κs = search rules
 
-returns : tie.Need-returns
+returns : tie.Need-returns-then-is_faulty
 returns c =
-    let s = c.before.before.before.before.before.before.before in
-    let a = s.args in
+    let a = c.before.before.before.before.before.before.before.args in
     c.refuse.ensures
-    ∙ sym (judged_enters a.grid.now a.last a.passed a.port s.requires.1
-    ∙ cond_taken _ _ (read s c.before.before.is-faulty.ensures) c.before.if1.true)
+    ∙ sym (judged_enters a.grid.now a.last a.passed a.port c.before.before.before.before.before.before.before.requires.1
+    ∙ cond_taken _ _ (read c.before.before.before.before.before.before.before c.before.before.is_faulty.ensures) c.before.if-is_faulty.true)
 
-returns-2 : tie.Need-returns-2
+returns-2 : tie.Need-returns
 returns-2 c =
-    let s = c.before.before.before.before.before.before in
-    let a = s.args in
-    sym (judged_enters a.grid.now a.last a.passed a.port s.requires.1
-    ∙ cond_left _ _ (read s c.before.is-faulty.ensures) c.if1.false)
+    let a = c.before.before.before.before.before.before.args in
+    sym (judged_enters a.grid.now a.last a.passed a.port c.before.before.before.before.before.before.requires.1
+    ∙ cond_left _ _ (read c.before.before.before.before.before.before c.before.is_faulty.ensures) c.if-is_faulty.false)
 
-pub land-spec : {M : Type 1} → statement M
-land-spec =
+pub land_spec : {M : Type 1} → statement M
+land_spec =
     tie.close
     (tie.spec mul-place add-place shared-slice-read-is-faulty is-faulty-requires refuse-requires returns returns-2)

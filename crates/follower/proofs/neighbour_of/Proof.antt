@@ -9,57 +9,49 @@ use native.Mathlib.Omega.{arith}
 use Rattle.follower.proofs.neighbour_of.Statement.{statement}
 use Rattle.follower.proofs.neighbour_of.Tie as tie
 
-index-along-requires : tie.Need-index-along-requires
+index-along-requires : tie.Need-index_along-i-requires
 index-along-requires c κs = search rules
 
-is-before-all-requires : tie.Need-is-before-all-requires
+is-before-all-requires : tie.Need-is_before_all-requires
 is-before-all-requires c κs = search rules
 
-returns : tie.Need-returns
+returns : tie.Need-returns-then-is_before_all
 returns c =
-    let s = c.before.before.before in
     record {
-      is = found_is s.args.port s.requires true _ _ _ _ _ c.before.before.index-along.ensures.0 (sym c.if1.true ∙ c.before.is-before-all.ensures) refl refl refl refl;
+      is = found_is c.before.before.before.args.port c.before.before.before.requires true _ _ _ _ _ c.before.before.index_along-i.ensures.0 (sym c.if-is_before_all.true ∙ c.before.is_before_all.ensures) refl refl refl refl;
       near = tt;
     }
 
-next-index-requires : tie.Need-next-index-requires
+next-index-requires : tie.Need-next_index-next-requires
 next-index-requires c κs =
-    let s = c.before.before.before in
-    (s.requires.sides, c.before.before.index-along.ensures.1, sym c.before.is-before-all.ensures ∙ c.if1.false)
+    (c.before.before.before.requires.sides, c.before.before.index_along-i.ensures.1, sym c.before.is_before_all.ensures ∙ c.if-is_before_all.false)
 
-next-kind-requires : tie.Need-next-kind-requires
+next-kind-requires : tie.Need-next_kind-other-requires
 next-kind-requires c κs = search rules
 
-opposite-side-requires : tie.Need-opposite-side-requires
+opposite-side-requires : tie.Need-opposite_side-facing-requires
 opposite-side-requires c κs = search rules
 
-returns-2 : tie.Need-returns-2
+returns-2 : tie.Need-returns-then-side-lt2
 returns-2 c =
-    let o = c.before in
-    let e = o.before.before.before in
-    let s = e.before.before.before in
     record {
       is =
-          found_is s.args.port s.requires false true _ _ _ _ e.before.before.index-along.ensures.0 (sym e.if1.false ∙ e.before.is-before-all.ensures)
-          (sym (lt-ltb _ _ c.if2.true)) o.before.next-kind.ensures.0 o.before.before.next-index.ensures.0 o.opposite-side.ensures.0;
-      near = (o.before.next-kind.ensures.1, omega arith, o.before.before.next-index.ensures.1, o.opposite-side.ensures.1);
+          found_is c.before.before.before.before.before.before.before.args.port c.before.before.before.before.before.before.before.requires false true _ _ _ _ c.before.before.before.before.before.before.index_along-i.ensures.0 (sym c.before.before.before.before.if-is_before_all.false ∙ c.before.before.before.before.before.is_before_all.ensures)
+          (sym (lt-ltb _ _ c.if-side-lt2.true)) c.before.before.next_kind-other.ensures.0 c.before.before.before.next_index-next.ensures.0 c.before.opposite_side-facing.ensures.0;
+      near = (c.before.before.next_kind-other.ensures.1, omega arith, c.before.before.before.next_index-next.ensures.1, c.before.opposite_side-facing.ensures.1);
     }
 
-returns-3 : tie.Need-returns-3
+returns-3 : tie.Need-returns-else-side-lt2
 returns-3 c =
-    let o = c.before in
-    let e = o.before.before.before in
-    let s = e.before.before.before in
     record {
       is =
-          found_is s.args.port s.requires false false _ _ _ _ e.before.before.index-along.ensures.0 (sym e.if1.false ∙ e.before.is-before-all.ensures)
-          (sym (le-ltb _ _ c.if2.false)) o.before.next-kind.ensures.0 o.before.before.next-index.ensures.0 o.opposite-side.ensures.0;
-      near = (o.before.next-kind.ensures.1, o.before.before.next-index.ensures.1, omega arith, o.opposite-side.ensures.1);
+          found_is c.before.before.before.before.before.before.before.args.port c.before.before.before.before.before.before.before.requires false false _ _ _ _ c.before.before.before.before.before.before.index_along-i.ensures.0 (sym c.before.before.before.before.if-is_before_all.false ∙ c.before.before.before.before.before.is_before_all.ensures)
+          (sym (le-ltb _ _ c.if-side-lt2.false)) c.before.before.next_kind-other.ensures.0 c.before.before.before.next_index-next.ensures.0 c.before.opposite_side-facing.ensures.0;
+      near = (c.before.before.next_kind-other.ensures.1, c.before.before.before.next_index-next.ensures.1, omega arith, c.before.opposite_side-facing.ensures.1);
     }
 
-pub neighbour-of-spec : {M : Type 1} → statement M
-neighbour-of-spec =
+pub neighbour_of_spec : {M : Type 1} → statement M
+neighbour_of_spec =
     tie.close
     (tie.spec
     index-along-requires

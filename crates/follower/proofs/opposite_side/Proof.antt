@@ -6,17 +6,17 @@ use native.Mathlib.Omega.{arith}
 use Rattle.follower.proofs.opposite_side.Statement.{statement}
 use Rattle.follower.proofs.opposite_side.Tie as tie
 
-add-result : tie.Need-overflow-add-result
+add-result : tie.Need-overflow_add-result
 add-result c = search rules
 
-sub-result : tie.Need-overflow-sub-result
+sub-result : tie.Need-overflow_sub-result
 sub-result c = search rules
 
-returns : tie.Need-returns
-returns c = (simp (eq-eqb _ _ c.if1.true), omega arith)
+returns : tie.Need-returns-then-side-eq0
+returns c = (simp (eq-eqb _ _ c.if-side-eq0.true), omega arith)
 
-returns-2 : tie.Need-returns-2
-returns-2 c = (simp (ne_eqb _ _ c.if1.false), omega arith)
+returns-2 : tie.Need-returns-else-side-eq0
+returns-2 c = (simp (ne_eqb _ _ c.if-side-eq0.false), omega arith)
 
-pub opposite-side-spec : {M : Type 1} → statement M
-opposite-side-spec = tie.close (tie.spec add-result sub-result returns returns-2)
+pub opposite_side_spec : {M : Type 1} → statement M
+opposite_side_spec = tie.close (tie.spec add-result sub-result returns returns-2)

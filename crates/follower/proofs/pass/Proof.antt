@@ -12,61 +12,58 @@ use Rattle.follower.proofs.pass.Tie as tie
 out : (s : tie.Start) → let a = s.args in SoundPort (record { kind = a.port.kind; row = a.port.row; column = a.port.column; side = a.side })
 out s = let h = s.requires.0 in record { kinds = h.kinds; rows = h.rows; columns = h.columns; sides = s.requires.1 }
 
-mul-place : tie.Need-overflow-mul-place
+mul-place : tie.Need-overflow_mul-place
 mul-place c = search rules
 
-add-place : tie.Need-overflow-add-place
+add-place : tie.Need-overflow_add-place
 add-place c = search rules
 
-is-fourth-requires : tie.Need-is-fourth-requires
+is-fourth-requires : tie.Need-is_fourth-requires
 is-fourth-requires c κs = search rules
 
 refuse-requires : tie.Need-refuse-requires
 refuse-requires c κs = search rules
 
-returns : tie.Need-returns
+returns : tie.Need-returns-then-is_fourth
 returns c =
-    let s = c.before.before.before in
-    let a = s.args in
+    let a = c.before.before.before.args in
     λ w.
     record {
       is = λ k.
           c.refuse.ensures
-          ∙ sym (judged_passes w.grid a.last a.passed a.port s.requires.0 _ _
-          ∙ cond_taken _ _ c.before.before.is-fourth.ensures c.before.if1.true);
+          ∙ sym (judged_passes w.grid a.last a.passed a.port c.before.before.before.requires.0 _ _
+          ∙ cond_taken _ _ c.before.before.is_fourth.ensures c.before.if-is_fourth.true);
       sound = tt;
     }
 
-returns-2 : tie.Need-returns-2
+returns-2 : tie.Need-returns-then-kind-eq0
 returns-2 c =
-    let s = c.before.before.before in
-    let a = s.args in
+    let a = c.before.before.before.args in
     λ w.
     record {
       is = λ k.
-          sym (judged_passes w.grid a.last a.passed a.port s.requires.0 _ _
-          ∙ cond_left _ _ c.before.before.is-fourth.ensures c.before.if1.false
-          ∙ cond_taken _ _ refl (eq-eqb _ _ c.if2.true));
-      sound = record { port = out s; few = s.requires.2 };
+          sym (judged_passes w.grid a.last a.passed a.port c.before.before.before.requires.0 _ _
+          ∙ cond_left _ _ c.before.before.is_fourth.ensures c.before.if-is_fourth.false
+          ∙ cond_taken _ _ refl (eq-eqb _ _ c.if-kind-eq0.true));
+      sound = record { port = out c.before.before.before; few = c.before.before.before.requires.2 };
     }
 
-add-t15 : tie.Need-overflow-add-t15
+add-t15 : tie.Need-overflow_add-result
 add-t15 c = search rules
 
-returns-3 : tie.Need-returns-3
+returns-3 : tie.Need-returns
 returns-3 c =
-    let s = c.before.before.before in
-    let a = s.args in
+    let a = c.before.before.before.args in
     λ w.
     record {
       is = λ k.
-          sym (judged_passes w.grid a.last a.passed a.port s.requires.0 _ _
-          ∙ cond_left _ _ c.before.before.is-fourth.ensures c.before.if1.false
-          ∙ cond_left _ _ refl (ne_eqb _ _ c.if2.false));
+          sym (judged_passes w.grid a.last a.passed a.port c.before.before.before.requires.0 _ _
+          ∙ cond_left _ _ c.before.before.is_fourth.ensures c.before.if-is_fourth.false
+          ∙ cond_left _ _ refl (ne_eqb _ _ c.if-kind-eq0.false));
       sound =
           record {
-            port = out s;
-            few = not_fourth a.port.kind a.passed s.requires.2 c.if2.false (sym c.before.before.is-fourth.ensures ∙ c.before.if1.false);
+            port = out c.before.before.before;
+            few = not_fourth a.port.kind a.passed c.before.before.before.requires.2 c.if-kind-eq0.false (sym c.before.before.is_fourth.ensures ∙ c.before.if-is_fourth.false);
           };
     }
 

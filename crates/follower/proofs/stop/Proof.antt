@@ -8,55 +8,52 @@ use borrow.Author.Rules.{rules}
 use Rattle.follower.proofs.stop.Statement.{statement}
 use Rattle.follower.proofs.stop.Tie as tie
 
-mul-place : tie.Need-overflow-mul-place
+mul-place : tie.Need-overflow_mul-place
 mul-place c = search rules
 
-add-place : tie.Need-overflow-add-place
+add-place : tie.Need-overflow_add-place
 add-place c = search rules
 
-is-fourth-requires : tie.Need-is-fourth-requires
+is-fourth-requires : tie.Need-is_fourth-requires
 is-fourth-requires c κs = search rules
 
 refuse-requires : tie.Need-refuse-requires
 refuse-requires c κs = search rules
 
-returns : tie.Need-returns
+returns : tie.Need-returns-then-is_fourth
 returns c =
-    let s = c.before.before.before.before.before in
-    let a = s.args in
+    let a = c.before.before.before.before.before.args in
     λ g.
     c.refuse.ensures
-    ∙ sym (judged_unjoined g a.last a.passed a.port s.requires
-    ∙ cond_taken _ _ c.before.before.is-fourth.ensures c.before.if1.true)
+    ∙ sym (judged_unjoined g a.last a.passed a.port c.before.before.before.before.before.requires
+    ∙ cond_taken _ _ c.before.before.is_fourth.ensures c.before.if-is_fourth.true)
 
-refuse-requires-2 : tie.Need-refuse-requires-2
+refuse-requires-2 : tie.Need-refuse-requires-then-kind-eq0
 refuse-requires-2 c κs = search rules
 
-returns-2 : tie.Need-returns-2
+returns-2 : tie.Need-returns-then-kind-eq0
 returns-2 c =
-    let s = c.before.before.before.before.before.before in
-    let a = s.args in
+    let a = c.before.before.before.before.before.before.args in
     λ g.
-    c.refuse2.ensures
-    ∙ sym (judged_unjoined g a.last a.passed a.port s.requires
-    ∙ cond_left _ _ c.before.before.before.is-fourth.ensures c.before.before.if1.false
-    ∙ cond_taken _ _ refl (eq-eqb _ _ c.before.if2.true))
+    c.refuse-then-kind-eq0.ensures
+    ∙ sym (judged_unjoined g a.last a.passed a.port c.before.before.before.before.before.before.requires
+    ∙ cond_left _ _ c.before.before.before.is_fourth.ensures c.before.before.if-is_fourth.false
+    ∙ cond_taken _ _ refl (eq-eqb _ _ c.before.if-kind-eq0.true))
 
-refuse-requires-3 : tie.Need-refuse-requires-3
+refuse-requires-3 : tie.Need-refuse-requires-2
 refuse-requires-3 c κs = search rules
 
-returns-3 : tie.Need-returns-3
+returns-3 : tie.Need-returns
 returns-3 c =
-    let s = c.before.before.before.before.before.before in
-    let a = s.args in
+    let a = c.before.before.before.before.before.before.args in
     λ g.
-    c.refuse3.ensures
-    ∙ sym (judged_unjoined g a.last a.passed a.port s.requires
-    ∙ cond_left _ _ c.before.before.before.is-fourth.ensures c.before.before.if1.false
-    ∙ cond_left _ _ refl (ne_eqb _ _ c.before.if2.false))
+    c.refuse-2.ensures
+    ∙ sym (judged_unjoined g a.last a.passed a.port c.before.before.before.before.before.before.requires
+    ∙ cond_left _ _ c.before.before.before.is_fourth.ensures c.before.before.if-is_fourth.false
+    ∙ cond_left _ _ refl (ne_eqb _ _ c.before.if-kind-eq0.false))
 
-pub stop-spec : {M : Type 1} → statement M
-stop-spec =
+pub stop_spec : {M : Type 1} → statement M
+stop_spec =
     tie.close
     (tie.spec
     mul-place

@@ -5,14 +5,14 @@ use borrow.Author.Rules.{rules}
 use Rattle.follower.proofs.straight.Statement.{statement}
 use Rattle.follower.proofs.straight.Tie as tie
 
-opposite-side-requires : tie.Need-opposite-side-requires
+opposite-side-requires : tie.Need-opposite_side-requires
 opposite-side-requires c κs = search rules
 
-returns : tie.Need-returns
-returns c = let s = c.before.before in rw (c.opposite-side.ensures.0, ← c.before.if1.true) (turns s.args.side s.requires.1).straight
+returns : tie.Need-returns-then-side-axis
+returns c = rw (c.opposite_side.ensures.0, ← c.before.if-side-axis.true) (turns c.before.before.args.side c.before.before.requires.1).straight
 
-returns-2 : tie.Need-returns-2
-returns-2 c = let s = c.before in not_straight s.args.axis s.args.side s.requires.0 s.requires.1 c.if1.false
+returns-2 : tie.Need-returns
+returns-2 c = not_straight c.before.args.axis c.before.args.side c.before.requires.0 c.before.requires.1 c.if-side-axis.false
 
-pub straight-spec : {M : Type 1} → statement M
-straight-spec = tie.close (tie.spec opposite-side-requires returns returns-2)
+pub straight_spec : {M : Type 1} → statement M
+straight_spec = tie.close (tie.spec opposite-side-requires returns returns-2)

@@ -6,40 +6,37 @@ use borrow.Author.Rules.{rules}
 use Rattle.follower.proofs.stretch_from.Statement.{statement}
 use Rattle.follower.proofs.stretch_from.Tie as tie
 
-neighbour-of-requires : tie.Need-neighbour-of-requires
+neighbour-of-requires : tie.Need-neighbour_of-s-requires
 neighbour-of-requires c κs = search rules
 
-enum-known-s : tie.Need-enum-known-s
+enum-known-s : tie.Need-enum_known-s
 enum-known-s c = search rules
 
-enum_told : tie.Need-enum-told
+enum_told : tie.Need-enum_told-1
 enum_told c = search rules
 
-returns : tie.Need-returns
-returns c = let e = c.enum_told.given.1 in rw e (stretch_none _ _ _ (rw e at c.before.before.neighbour_of.ensures))
+returns : tie.Need-returns-in_default
+returns c = let e = c.in_default.is in rw e (stretch_none _ _ _ (rw e at c.before.neighbour_of-s.ensures))
 
-is-standing-requires : tie.Need-is-standing-requires
+is-standing-requires : tie.Need-is_standing-requires
 is-standing-requires c κs =
-    let s = c.before in
-    let p = c.before.before.before.before.requires in
-    let h = rw s.s.given.1 at s.before.before.neighbour_of.ensures in
+    let p = c.before.before.requires in
+    let h = rw c.in-To.is at c.before.neighbour_of-s.ensures in
     (p.0, p.1, h.near.1, h.near.2)
 
-returns-2 : tie.Need-returns-2
+returns-2 : tie.Need-returns-then-is_standing
 returns-2 c =
-    let s = c.before.before.before in
-    let e = s.s.given.1 in
-    stretch_on _ _ _ _ (rw e at s.before.before.neighbour_of.ensures) s.before.before.before.requires.0 s.before.before.before.requires.1
-    (sym c.before.is-standing.ensures ∙ c.if1.true)
+    let e = c.before.before.in-To.is in
+    stretch_on _ _ _ _ (rw e at c.before.before.before.neighbour_of-s.ensures) c.before.before.before.before.requires.0 c.before.before.before.before.requires.1
+    (sym c.before.is_standing.ensures ∙ c.if-is_standing.true)
 
-returns-3 : tie.Need-returns-3
+returns-3 : tie.Need-returns
 returns-3 c =
-    let s = c.before.before.before in
-    let e = s.s.given.1 in
-    stretch_off _ _ _ _ (rw e at s.before.before.neighbour_of.ensures) (sym c.before.is-standing.ensures ∙ c.if1.false)
+    let e = c.before.before.in-To.is in
+    stretch_off _ _ _ _ (rw e at c.before.before.before.neighbour_of-s.ensures) (sym c.before.is_standing.ensures ∙ c.if-is_standing.false)
 
-pub stretch-from-spec : {M : Type 1} → statement M
-stretch-from-spec =
+pub stretch_from_spec : {M : Type 1} → statement M
+stretch_from_spec =
     tie.close
     (tie.spec
     neighbour-of-requires

@@ -9,19 +9,19 @@ use borrow.Author.Rules.{rules}
 use Rattle.lists.proofs.check_entry.Statement.{statement}
 use Rattle.lists.proofs.check_entry.Tie as tie
 
-lower-of-requires : tie.Need-lower-of-requires
+lower-of-requires : tie.Need-lower_of-requires
 lower-of-requires c κs = search rules
 
-returns : tie.Need-returns
+returns : tie.Need-returns-then-position-p
 returns c =
     let a = c.before.before.args in
     ap (λ (p : ℕ). refuse 4 p 0) c.lower_of.ensures
-    ∙ ap (λ (b : Bool). refuse_if b 4 (lower a.p a.position) 0) (sym c.before.if1.true)
+    ∙ ap (λ (b : Bool). refuse_if b 4 (lower a.p a.position) 0) (sym c.before.if-position-p.true)
 
-returns-2 : tie.Need-returns-2
+returns-2 : tie.Need-returns
 returns-2 c =
     let a = c.before.args in
-    ap (λ (b : Bool). refuse_if b 4 (lower a.p a.position) 0) (sym c.if1.false)
+    ap (λ (b : Bool). refuse_if b 4 (lower a.p a.position) 0) (sym c.if-position-p.false)
 
-pub check-entry-spec : {M : Type 1} → statement M
-check-entry-spec = tie.close (tie.spec lower-of-requires returns returns-2)
+pub check_entry_spec : {M : Type 1} → statement M
+check_entry_spec = tie.close (tie.spec lower-of-requires returns returns-2)

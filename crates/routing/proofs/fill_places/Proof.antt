@@ -8,41 +8,41 @@ use borrow.Author.Rules.{rules}
 use Rattle.routing.proofs.fill_places.Statement.{statement}
 use Rattle.routing.proofs.fill_places.Tie as tie
 
-abbrev invariant-loop : tie.invariant-loop
+abbrev invariant-loop : tie.invariant-loop-p
 invariant-loop n m traced places₀ p₀ places p = Filling (placed_by n m traced) 1024 p places
 
-abbrev decreases-loop : tie.decreases-loop
+abbrev decreases-loop : tie.decreases-loop-p
 decreases-loop n m traced places₀ p₀ places p = 1024 - p
 
-loop-holds : tie.Need-loop-init invariant-loop decreases-loop
+loop-holds : tie.Need-loop-p-init invariant-loop decreases-loop
 loop-holds c = fill_start _ _ (omega arith)
 
-place-at-requires : tie.Need-place-at-requires invariant-loop decreases-loop
+place-at-requires : tie.Need-place_at-requires invariant-loop decreases-loop
 place-at-requires c κs = search rules
 
-mul-places : tie.Need-overflow-mul-places invariant-loop decreases-loop
+mul-places : tie.Need-offset_bounds-places-p invariant-loop decreases-loop
 mul-places c = omega arith
 
-slice-write-places : tie.Need-slice-write-places invariant-loop decreases-loop
+slice-write-places : tie.Need-bounds-places-p invariant-loop decreases-loop
 slice-write-places c = omega arith
 
-add-p : tie.Need-overflow-add-p invariant-loop decreases-loop
+add-p : tie.Need-overflow_step-p invariant-loop decreases-loop
 add-p c = omega arith
 
-loop-less : tie.Need-loop-smaller invariant-loop decreases-loop
+loop-less : tie.Need-loop-p-smaller invariant-loop decreases-loop
 loop-less c = omega arith
 
-loop-again : tie.Need-loop-preserved invariant-loop decreases-loop
-loop-again c = fill_step c.before.before.loop.invariant _ (omega arith) c.place_at.ensures
+loop-again : tie.Need-loop-p-preserved invariant-loop decreases-loop
+loop-again c = fill_step c.before.before.loop-p.invariant _ (omega arith) c.place_at.ensures
 
-same_length : tie.Need-same-length invariant-loop decreases-loop
-same_length c = omega (arith, c.before.loop.invariant.long)
+same_length : tie.Need-shape_of-places invariant-loop decreases-loop
+same_length c = omega (arith, c.before.loop-p.invariant.long)
 
 returns : tie.Need-returns invariant-loop decreases-loop
-returns c = fill_end c.before.loop.invariant (omega arith)
+returns c = fill_end c.before.loop-p.invariant (omega arith)
 
-pub fill-places-spec : {M : Type 1} → statement M
-fill-places-spec =
+pub fill_places_spec : {M : Type 1} → statement M
+fill_places_spec =
     tie.close
     (tie.spec
     invariant-loop

@@ -11,13 +11,13 @@ use Rattle.routing.proofs.horizontal_state.Tie as tie
 transpose-requires : tie.Need-transpose-requires
 transpose-requires c κs = search rules
 
-vertical-state-requires : tie.Need-vertical-state-requires
+vertical-state-requires : tie.Need-vertical_state-requires
 vertical-state-requires c κs = search rules
 
 returns : tie.Need-returns
 returns c =
     let a = c.before.before.args in
-    c.vertical-state.ensures ∙ ap (λ (d : ℕ). vertical d a.fault) c.before.transpose.ensures ∙ transposed_state a.d a.fault
+    c.vertical_state.ensures ∙ ap (λ (d : ℕ). vertical d a.fault) c.before.transpose.ensures ∙ transposed_state a.d a.fault
 
-pub horizontal-state-spec : {M : Type 1} → statement M
-horizontal-state-spec = tie.close (tie.spec transpose-requires vertical-state-requires returns)
+pub horizontal_state_spec : {M : Type 1} → statement M
+horizontal_state_spec = tie.close (tie.spec transpose-requires vertical-state-requires returns)

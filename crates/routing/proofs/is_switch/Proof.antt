@@ -4,29 +4,29 @@ use borrow.Author.Rules.{rules}
 use Rattle.routing.proofs.is_switch.Statement.{statement}
 use Rattle.routing.proofs.is_switch.Tie as tie
 
-is-processor-at-requires : tie.Need-is-processor-at-requires
+is-processor-at-requires : tie.Need-is_processor_at-first-requires
 is-processor-at-requires c κs = search rules
 
-add-is-processor-at : tie.Need-overflow-add-is-processor-at
+add-is-processor-at : tie.Need-overflow_add-x
 add-is-processor-at c = search rules
 
-is-processor-at-requires-2 : tie.Need-is-processor-at-requires-2
+is-processor-at-requires-2 : tie.Need-is_processor_at-requires
 is-processor-at-requires-2 c κs = search rules
 
-add-is-processor-at-2 : tie.Need-overflow-add-is-processor-at-2
+add-is-processor-at-2 : tie.Need-overflow_add-y
 add-is-processor-at-2 c = search rules
 
-is-processor-at-requires-3 : tie.Need-is-processor-at-requires-3
+is-processor-at-requires-3 : tie.Need-is_processor_at-requires-else-down
 is-processor-at-requires-3 c κs = search rules
 
-returns : tie.Need-returns
-returns c = rw (c.before.if1.true, c.before.before.is-processor-at.ensures, c.is-processor-at2.ensures)
+returns : tie.Need-returns-then-down
+returns c = rw (c.before.if-down.true, c.before.before.is_processor_at-first.ensures, c.is_processor_at.ensures)
 
-returns-2 : tie.Need-returns-2
-returns-2 c = rw (c.before.if1.false, c.before.before.is-processor-at.ensures, c.is-processor-at3.ensures)
+returns-2 : tie.Need-returns-else-down
+returns-2 c = rw (c.before.if-down.false, c.before.before.is_processor_at-first.ensures, c.is_processor_at-else-down.ensures)
 
-pub is-switch-spec : {M : Type 1} → statement M
-is-switch-spec =
+pub is_switch_spec : {M : Type 1} → statement M
+is_switch_spec =
     tie.close
     (tie.spec
     is-processor-at-requires

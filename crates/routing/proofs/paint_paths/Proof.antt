@@ -9,58 +9,55 @@ use borrow.Author.Rules.{rules}
 use Rattle.routing.proofs.paint_paths.Statement.{statement}
 use Rattle.routing.proofs.paint_paths.Tie as tie
 
-abbrev invariant-loop : tie.invariant-loop
+abbrev invariant-loop : tie.invariant-loop-i
 invariant-loop n m starts ds out₀ count i₀ out i = Traced n m starts ds i out
 
-abbrev decreases-loop : tie.decreases-loop
+abbrev decreases-loop : tie.decreases-loop-i
 decreases-loop n m starts ds out₀ count i₀ out i = length starts - i
 
-loop-holds : tie.Need-loop-init invariant-loop decreases-loop
-loop-holds c = let s = c.before.before.before in trace_start _ _ _ _ _ s.requires.0.same s.requires.1
+loop-holds : tie.Need-loop-i-init invariant-loop decreases-loop
+loop-holds c = trace_start _ _ _ _ _ c.before.before.before.requires.0.same c.before.before.before.requires.1
 
-sub-k : tie.Need-overflow-sub-k invariant-loop decreases-loop
+sub-k : tie.Need-overflow_sub-k invariant-loop decreases-loop
 sub-k c = omega arith
 
-sub-k-2 : tie.Need-overflow-sub-k-2 invariant-loop decreases-loop
+sub-k-2 : tie.Need-overflow_sub-k-in-loop-i invariant-loop decreases-loop
 sub-k-2 c = omega arith
 
-mul_wide : tie.Need-overflow-mul-wide invariant-loop decreases-loop
+mul_wide : tie.Need-offset_bounds-starts-k invariant-loop decreases-loop
 mul_wide c = omega arith
 
-shared-slice-read-wide : tie.Need-shared-slice-read-wide invariant-loop decreases-loop
+shared-slice-read-wide : tie.Need-bounds-starts-k invariant-loop decreases-loop
 shared-slice-read-wide c = omega arith
 
 wide-requires : tie.Need-wide-requires invariant-loop decreases-loop
 wide-requires c κs = search rules
 
-shared-slice-read-paint-path : tie.Need-shared-slice-read-paint-path invariant-loop decreases-loop
-shared-slice-read-paint-path c = omega (arith, c.before.before.before.before.loop.invariant.same)
+shared-slice-read-paint-path : tie.Need-bounds-ds-k invariant-loop decreases-loop
+shared-slice-read-paint-path c = omega (arith, c.before.before.before.before.loop-i.invariant.same)
 
-paint-path-requires : tie.Need-paint-path-requires invariant-loop decreases-loop
+paint-path-requires : tie.Need-paint_path-requires invariant-loop decreases-loop
 paint-path-requires c κs =
-    let l = c.before.before.before.before.before in
-    let s = l.before.before.before.before in
-    (start_here s.requires.0 _ _ (omega arith) c.before.before.wide.ensures, trace_long l.loop.invariant)
+    (start_here c.before.before.before.before.before.before.before.before.before.requires.0 _ _ (omega arith) c.before.before.wide.ensures, trace_long c.before.before.before.before.before.loop-i.invariant)
 
-add-i : tie.Need-overflow-add-i invariant-loop decreases-loop
+add-i : tie.Need-overflow_step-i invariant-loop decreases-loop
 add-i c = omega arith
 
-loop-less : tie.Need-loop-smaller invariant-loop decreases-loop
+loop-less : tie.Need-loop-i-smaller invariant-loop decreases-loop
 loop-less c = omega arith
 
-loop-again : tie.Need-loop-preserved invariant-loop decreases-loop
+loop-again : tie.Need-loop-i-preserved invariant-loop decreases-loop
 loop-again c =
-    let w = c.before.before.before.before.before in
-    trace_step w.before.before.before.loop.invariant _ _ _ (omega arith) w.wide.ensures c.before.before.paint-path.ensures
+    trace_step c.before.before.before.before.before.before.before.before.loop-i.invariant _ _ _ (omega arith) c.before.before.before.before.before.wide.ensures c.before.before.paint_path.ensures
 
-same_length : tie.Need-same-length invariant-loop decreases-loop
-same_length c = trace_long c.before.loop.invariant ∙ sym (zeros_long _ c.before.before.before.before.before.requires.1)
+same_length : tie.Need-shape_of-out invariant-loop decreases-loop
+same_length c = trace_long c.before.loop-i.invariant ∙ sym (zeros_long _ c.before.before.before.before.before.requires.1)
 
 returns : tie.Need-returns invariant-loop decreases-loop
-returns c = trace_end c.before.loop.invariant (omega arith)
+returns c = trace_end c.before.loop-i.invariant (omega arith)
 
-pub paint-paths-spec : {M : Type 1} → statement M
-paint-paths-spec =
+pub paint_paths_spec : {M : Type 1} → statement M
+paint_paths_spec =
     tie.close
     (tie.spec
     invariant-loop

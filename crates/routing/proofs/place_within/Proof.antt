@@ -11,33 +11,31 @@ use borrow.Author.Rules.{rules}
 use Rattle.routing.proofs.place_within.Statement.{statement}
 use Rattle.routing.proofs.place_within.Tie as tie
 
-abbrev start : tie.After-trace-paths → tie.Start
+abbrev start : tie.After-trace_paths → tie.Start
 start t = t.before.before.before.before.before.before
 
-trace-paths-requires : tie.Need-trace-paths-requires
+trace-paths-requires : tie.Need-trace_paths-requires
 trace-paths-requires c κs = search rules
 
-fill-places-requires : tie.Need-fill-places-requires
+fill-places-requires : tie.Need-fill_places-requires
 fill-places-requires c κs =
-    let t = c.before.before.before.before in
-    let a = (start t).args in
-    (ap length t.trace-paths.ensures ∙ traced_long a.n a.m a.grid.now a.directions.now, (start t).requires.2)
+    let a = (start c.before.before.before).args in
+    (ap length c.before.before.before.trace_paths.ensures ∙ traced_long a.n a.m a.grid.now a.directions.now, (start c.before.before.before).requires.2)
 
-same_length : tie.Need-same-length
+same_length : tie.Need-shape_of-traced
 same_length c = search rules
 
-same-length-2 : tie.Need-same-length-2
+same-length-2 : tie.Need-shape_of-places
 same-length-2 c = search rules
 
 returns : tie.Need-returns
 returns c =
-    let t = c.before.before.before.before.before.before.before in
-    let a = (start t).args in
-    c.before.before.fill-places.ensures
-    ∙ ap (λ (x : List ℕ). buffer (placed_by a.n a.m x)) t.trace-paths.ensures
+    let a = (start c.before.before.before.before.before.before).args in
+    c.before.before.fill_places.ensures
+    ∙ ap (λ (x : List ℕ). buffer (placed_by a.n a.m x)) c.before.before.before.before.before.before.trace_paths.ensures
     ∙ placed_is a.n a.m a.grid.now a.directions.now
 
-pub place-within-spec : {M : Type 1} → statement M
-place-within-spec =
+pub place_within_spec : {M : Type 1} → statement M
+place_within_spec =
     tie.close
     (tie.spec trace-paths-requires fill-places-requires same_length same-length-2 returns)

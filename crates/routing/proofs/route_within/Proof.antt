@@ -12,60 +12,57 @@ use borrow.Author.Rules.{rules}
 use Rattle.routing.proofs.route_within.Statement.{statement}
 use Rattle.routing.proofs.route_within.Tie as tie
 
-abbrev start : tie.After-trace-paths → tie.Start
+abbrev start : tie.After-trace_paths → tie.Start
 start t = t.before.before.before.before.before.before.before
 
-abbrev paths : tie.After-trace-paths → List ℕ
+abbrev paths : tie.After-trace_paths → List ℕ
 paths t = let a = (start t).args in traced_paths a.n a.m a.grid.now a.directions.now
 
-long : (t : tie.After-trace-paths) → length (paths t) ≡ 1024
+long : (t : tie.After-trace_paths) → length (paths t) ≡ 1024
 long t = let a = (start t).args in traced_long a.n a.m a.grid.now a.directions.now
 
-abbrev letters : tie.After-trace-paths → Bool → List ℕ → List ℕ
+abbrev letters : tie.After-trace_paths → Bool → List ℕ → List ℕ
 letters t down x = let a = (start t).args in buffer (letter_by down a.n a.m a.grid.now x)
 
-trace-paths-requires : tie.Need-trace-paths-requires
+trace-paths-requires : tie.Need-trace_paths-requires
 trace-paths-requires c κs = search rules
 
-fill-letters-requires : tie.Need-fill-letters-requires
+fill-letters-requires : tie.Need-fill_letters-requires
 fill-letters-requires c κs =
-    let t = c.before.before.before.before in
-    let s = (start t).requires in
+    let s = (start c.before.before.before).requires in
     let d = s.0.sound in
-    (d.rows, d.columns, d.grid_long, ap length t.trace-paths.ensures ∙ long t, s.2)
+    (d.rows, d.columns, d.grid_long, ap length c.before.before.before.trace_paths.ensures ∙ long c.before.before.before, s.2)
 
-fill-letters-requires-2 : tie.Need-fill-letters-requires-2
+fill-letters-requires-2 : tie.Need-fill_letters-requires-2
 fill-letters-requires-2 c κs =
-    let t = c.before.before.before.before.before.before.before.before.before in
-    let s = (start t).requires in
+    let s = (start c.before.before.before.before.before.before.before).requires in
     let d = s.0.sound in
-    (d.rows, d.columns, d.grid_long, ap length t.trace-paths.ensures ∙ long t, s.3)
+    (d.rows, d.columns, d.grid_long, ap length c.before.before.before.before.before.before.before.trace_paths.ensures ∙ long c.before.before.before.before.before.before.before, s.3)
 
-same_length : tie.Need-same-length
+same_length : tie.Need-shape_of-traced
 same_length c = search rules
 
-same-length-2 : tie.Need-same-length-2
+same-length-2 : tie.Need-shape_of-across
 same-length-2 c = search rules
 
-same-length-3 : tie.Need-same-length-3
+same-length-3 : tie.Need-shape_of-down
 same-length-3 c = search rules
 
 returns : tie.Need-returns
 returns c =
-    let t = c.before.before.before.before.before.before.before.before.before.before.before.before in
-    let s = start t in
+    let s = start c.before.before.before.before.before.before.before.before.before.before in
     let a = s.args in
-    let d = s.pre.0.sound in (
-      c.before.before.before.before.before.before.before.fill-letters.ensures
-          ∙ ap (letters t false) t.trace-paths.ensures
+    let d = s.requires.0.sound in (
+      c.before.before.before.before.before.before.fill_letters.ensures
+          ∙ ap (letters c.before.before.before.before.before.before.before.before.before.before false) c.before.before.before.before.before.before.before.before.before.before.trace_paths.ensures
           ∙ across_is a.n a.m d.rows d.columns a.grid.now a.directions.now,
-      c.before.before.fill-letters2.ensures
-          ∙ ap (letters t true) t.trace-paths.ensures
+      c.before.before.fill_letters-2.ensures
+          ∙ ap (letters c.before.before.before.before.before.before.before.before.before.before true) c.before.before.before.before.before.before.before.before.before.before.trace_paths.ensures
           ∙ down_is a.n a.m d.rows d.columns a.grid.now a.directions.now,
     )
 
-pub route-within-spec : {M : Type 1} → statement M
-route-within-spec =
+pub route_within_spec : {M : Type 1} → statement M
+route_within_spec =
     tie.close
     (tie.spec
     trace-paths-requires

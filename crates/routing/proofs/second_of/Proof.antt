@@ -4,17 +4,17 @@ use borrow.Author.Rules.{rules}
 use Rattle.routing.proofs.second_of.Statement.{statement}
 use Rattle.routing.proofs.second_of.Tie as tie
 
-add-result : tie.Need-overflow-add-result
+add-result : tie.Need-overflow_add-result
 add-result c = search rules
 
-add-result-2 : tie.Need-overflow-add-result-2
+add-result-2 : tie.Need-overflow_add-result-else-down
 add-result-2 c = search rules
 
-returns : tie.Need-returns
-returns c = rw c.if1.true
+returns : tie.Need-returns-then-down
+returns c = rw c.if-down.true
 
-returns-2 : tie.Need-returns-2
-returns-2 c = rw c.if1.false
+returns-2 : tie.Need-returns-else-down
+returns-2 c = rw c.if-down.false
 
-pub second-of-spec : {M : Type 1} → statement M
-second-of-spec = tie.close (tie.spec add-result add-result-2 returns returns-2)
+pub second_of_spec : {M : Type 1} → statement M
+second_of_spec = tie.close (tie.spec add-result add-result-2 returns returns-2)

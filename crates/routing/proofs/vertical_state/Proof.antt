@@ -26,24 +26,22 @@ in_order false false fault = refl
 decided : (s : tie.Start) → let a = s.args in by_lines (eqb a.d 1) (eqb a.d 2) a.fault ≡ vertical a.d a.fault
 decided s = in_order (eqb s.args.d 1) (eqb s.args.d 2) s.args.fault
 
-returns : tie.Need-returns
-returns c = rw c.if1.true at (decided c.before)
+returns : tie.Need-returns-then-d
+returns c = rw c.if-d.true at (decided c.before)
 
-returns-2 : tie.Need-returns-2
-returns-2 c = rw (c.before.if1.false, c.if2.true) at (decided c.before.before)
+returns-2 : tie.Need-returns-then-fault-d
+returns-2 c = rw (c.before.if-d.false, c.if-fault-d.true) at (decided c.before.before)
 
-returns-3 : tie.Need-returns-3
-returns-3 c = rw (c.before.before.if1.false, c.before.if2.false, c.if3.true) at (decided c.before.before.before)
+returns-3 : tie.Need-returns-then-fault-d-2
+returns-3 c = rw (c.before.before.if-d.false, c.before.if-fault-d.false, c.if-fault-d-2.true) at (decided c.before.before.before)
 
-returns-4 : tie.Need-returns-4
+returns-4 : tie.Need-returns-then-fault-d-3
 returns-4 c =
-    let s = c.before in
-    rw (s.before.before.if1.false, s.before.if2.false, s.if3.false, c.if4.true) at (decided s.before.before.before)
+    rw (c.before.before.before.if-d.false, c.before.before.if-fault-d.false, c.before.if-fault-d-2.false, c.if-fault-d-3.true) at (decided c.before.before.before.before)
 
-returns-5 : tie.Need-returns-5
+returns-5 : tie.Need-returns
 returns-5 c =
-    let s = c.before in
-    rw (s.before.before.if1.false, s.before.if2.false, s.if3.false, c.if4.false) at (decided s.before.before.before)
+    rw (c.before.before.before.if-d.false, c.before.before.if-fault-d.false, c.before.if-fault-d-2.false, c.if-fault-d-3.false) at (decided c.before.before.before.before)
 
-pub vertical-state-spec : {M : Type 1} → statement M
-vertical-state-spec = tie.close (tie.spec returns returns-2 returns-3 returns-4 returns-5)
+pub vertical_state_spec : {M : Type 1} → statement M
+vertical_state_spec = tie.close (tie.spec returns returns-2 returns-3 returns-4 returns-5)

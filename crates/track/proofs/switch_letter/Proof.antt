@@ -34,25 +34,25 @@ single k =
 abbrev key : tie.Start → ℕ
 key s = s.args.west * 5 + s.args.east
 
-mul-match : tie.Need-overflow-mul-match
+mul-match : tie.Need-overflow_mul-west
 mul-match c = search rules
 
-add-match : tie.Need-overflow-add-match
+add-match : tie.Need-overflow_add-west
 add-match c = search rules
 
-returns : tie.Need-returns
+returns : tie.Need-returns-in-13
 unfolding letter entry letters
-returns c = ⊎_elim (λ e. rw e) (λ e. rw e) c.match.keys1
+returns c = ⊎_elim (λ e. rw e) (λ e. rw e) c.in-13.is
 
-returns-2 : tie.Need-returns-2
+returns-2 : tie.Need-returns-in_default
 unfolding letter entry letters holds
-returns-2 c = on-range 98 0 1 (key c.before.before) refl (omega arith) (omega arith)
+returns-2 c = on-range 98 0 1 (key c.before) refl (omega arith) (omega arith)
 
-returns-3 : tie.Need-returns-3
+returns-3 : tie.Need-returns-in_default-2
 unfolding letter entry letters holds single
 returns-3 c =
-    let r = c.before.before.before.match.rest in
-    let k = key c.before.before.before.before in
+    let r = c.in_default.in_default-own.rest in
+    let k = key c.before in
     let t : single k ≡ true = all_at single 6 19 k refl (omega arith) (omega arith) in
     eqb-true _ _
     (simp (
@@ -67,22 +67,22 @@ returns-3 c =
       ne_eqb k 19 (λ e. r.1 (inr (inr e))),
     ) at t)
 
-returns-4 : tie.Need-returns-4
+returns-4 : tie.Need-returns-in-3-to-5
 unfolding letter entry letters
-returns-4 c = ⊎_elim (λ e. rw e) (⊎_elim (λ e. rw e) (λ e. rw e)) c.match.keys3
+returns-4 c = ⊎_elim (λ e. rw e) (⊎_elim (λ e. rw e) (λ e. rw e)) c.in-3-to-5.in-3-to-5-own.keys3
 
-returns-5 : tie.Need-returns-5
+returns-5 : tie.Need-returns-in-3-to-5-2
 unfolding letter entry letters holds
-returns-5 c = on-range 100 3 3 (key c.before.before.before.before) refl (omega arith) (omega arith)
+returns-5 c = on-range 100 3 3 (key c.before) refl (omega arith) (omega arith)
 
-returns-6 : tie.Need-returns-6
+returns-6 : tie.Need-returns-in-1-to-2
 unfolding letter entry letters
-returns-6 c = ⊎_elim (λ e. rw e) (⊎_elim (λ e. rw e) (⊎_elim (λ e. rw e) (λ e. rw e))) c.match.keys2
+returns-6 c = ⊎_elim (λ e. rw e) (⊎_elim (λ e. rw e) (⊎_elim (λ e. rw e) (λ e. rw e))) c.in-1-to-2.in-1-to-2-own.keys2
 
-returns-7 : tie.Need-returns-7
+returns-7 : tie.Need-returns-in-1-to-2-2
 unfolding letter entry letters holds
-returns-7 c = on-range 99 1 2 (key c.before.before.before) refl (omega arith) (omega arith)
+returns-7 c = on-range 99 1 2 (key c.before) refl (omega arith) (omega arith)
 
-pub switch-letter-spec : {M : Type 1} → statement M
-switch-letter-spec =
+pub switch_letter_spec : {M : Type 1} → statement M
+switch_letter_spec =
     tie.close (tie.spec mul-match add-match returns returns-2 returns-3 returns-4 returns-5 returns-6 returns-7)

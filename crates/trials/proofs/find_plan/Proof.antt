@@ -11,61 +11,56 @@ use Rattle.trials.proofs.find_plan.Statement.{statement}
 use Rattle.trials.proofs.find_plan.Tie as tie
 
 -- the working buffer has a place for each of them
-room : (c : tie.After-search-within) → c.before.before.before.before.list-faults.result ≤ length c.search-within.new.1.1.1.1.0
-room c = omega (arith, c.before.before.before.before.list-faults.ensures.short, c.search-within.auto.1.1.1.1.0)
+room : (c : tie.After-search_within-found) → c.before.before.before.before.list_faults-count.result ≤ length c.search_within-found.new.chosen
+room c = omega (arith, c.before.before.before.before.list_faults-count.ensures.short, c.search_within-found.auto.chosen)
 
-slice-aggregate-list-faults : tie.Need-slice-aggregate-list-faults
+slice-aggregate-list-faults : tie.Need-slice_bounds-list_faults-end
 slice-aggregate-list-faults c = search rules
 
-list-faults-requires : tie.Need-list-faults-requires
+list-faults-requires : tie.Need-list_faults-count-requires
 list-faults-requires c κs = search rules
 
-array-share-prefix-starts : tie.Need-array-share-prefix-starts
-array-share-prefix-starts c = c.before.list-faults.ensures.fits
+array-share-prefix-starts : tie.Need-slice_bounds-starts-end
+array-share-prefix-starts c = c.before.list_faults-count.ensures.fits
 
-slice-aggregate-search-within : tie.Need-slice-aggregate-search-within
-slice-aggregate-search-within c = c.before.before.list-faults.ensures.size
+slice-aggregate-search-within : tie.Need-slice_bounds-search_within-end
+slice-aggregate-search-within c = c.before.before.list_faults-count.ensures.size
 
-slice-aggregate-search-within-2 : tie.Need-slice-aggregate-search-within-2
+slice-aggregate-search-within-2 : tie.Need-slice_bounds-search_within-end-2
 slice-aggregate-search-within-2 c = search rules
 
-search-within-requires : tie.Need-search-within-requires
+search-within-requires : tie.Need-search_within-found-requires
 search-within-requires c κs =
-    let s = c.before.before.before.before.before.before.before in
-    let l = c.before.before.before.list-faults.ensures in
-    (ready l s.requires.0 s.requires.1 s.requires.2, omega (arith, l.size, l.short), omega (arith, l.size, l.short))
+    let l = c.before.before.before.list_faults-count.ensures in
+    (ready l c.before.before.before.before.before.before.before.requires.0 c.before.before.before.before.before.before.before.requires.1 c.before.before.before.before.before.before.before.requires.2, omega (arith, l.size, l.short), omega (arith, l.size, l.short))
 
-array-share-prefix-starts-2 : tie.Need-array-share-prefix-starts-2
-array-share-prefix-starts-2 c = c.before.before.before.before.before.list-faults.ensures.fits
+array-share-prefix-starts-2 : tie.Need-slice_bounds-starts-end-2
+array-share-prefix-starts-2 c = c.before.before.before.before.before.list_faults-count.ensures.fits
 
-slice-aggregate-write-found : tie.Need-slice-aggregate-write-found
-slice-aggregate-write-found c = c.before.before.before.before.before.before.list-faults.ensures.size
+slice-aggregate-write-found : tie.Need-slice_bounds-write_found-end
+slice-aggregate-write-found c = c.before.before.before.before.before.before.list_faults-count.ensures.size
 
-array-share-prefix-chosen : tie.Need-array-share-prefix-chosen
+array-share-prefix-chosen : tie.Need-slice_bounds-chosen-end
 array-share-prefix-chosen c = room c.before.before
 
-slice-aggregate-write-found-2 : tie.Need-slice-aggregate-write-found-2
+slice-aggregate-write-found-2 : tie.Need-slice_bounds-write_found-end-2
 slice-aggregate-write-found-2 c = sym (length-take-le _ _ (room c.before.before.before))
 
-write-found-requires : tie.Need-write-found-requires
+write-found-requires : tie.Need-write_found-requires
 write-found-requires c κs =
-    let q = c.before.before.before.before in
-    let f = q.before.before.before.before in
-    let s = f.before.before.before.before in
-    let l = f.list-faults.ensures in
-    let e = length-take-le f.list-faults.result q.search-within.new.1.1.1.1.0 (room q) in
-    (s.requires.3, omega (arith, l.size, e), starts_below l s.requires.2)
+    let l = c.before.before.before.before.before.before.before.before.list_faults-count.ensures in
+    let e = length-take-le c.before.before.before.before.before.before.before.before.list_faults-count.result c.before.before.before.before.search_within-found.new.chosen (room c.before.before.before.before) in
+    (c.before.before.before.before.before.before.before.before.before.before.before.before.requires.3, omega (arith, l.size, e), starts_below l c.before.before.before.before.before.before.before.before.before.before.before.before.requires.2)
 
-same_length : tie.Need-same-length
+same_length : tie.Need-shape_of-directions
 same_length c = search rules
 
 returns : tie.Need-returns
 returns c =
-    let q = c.before.before.before.before.before.before.before in
-    planned_end q.before.before.before.before.list-faults.ensures _ _ _ _ q.search-within.ensures.0 q.search-within.ensures.1 c.before.before.write-found.ensures
+    planned_end c.before.before.before.before.before.before.before.before.before.before.before.list_faults-count.ensures _ _ _ _ c.before.before.before.before.before.before.before.search_within-found.ensures.0 c.before.before.before.before.before.before.before.search_within-found.ensures.1 c.before.before.write_found.ensures
 
-pub find-plan-spec : {M : Type 1} → statement M
-find-plan-spec =
+pub find_plan_spec : {M : Type 1} → statement M
+find_plan_spec =
     tie.close
     (tie.spec
     slice-aggregate-list-faults

@@ -9,60 +9,59 @@ use Rattle.trials.proofs.Testing.{entries_next, entries_none}
 use Rattle.trials.proofs.is_clear_of.Statement.{statement}
 use Rattle.trials.proofs.is_clear_of.Tie as tie
 
-abbrev invariant-loop : tie.invariant-loop
+abbrev invariant-loop : tie.invariant-loop-j
 invariant-loop table rows columns chosen k d x y j₀ j =
     (j ≤ k) × (entries_clear rows columns chosen k d k ≡ entries_clear rows columns chosen k d j)
 
-abbrev decreases-loop : tie.decreases-loop
+abbrev decreases-loop : tie.decreases-loop-j
 decreases-loop table rows columns chosen k d x y j₀ j = j
 
-shared-slice-read-x : tie.Need-shared-slice-read-x invariant-loop decreases-loop
+shared-slice-read-x : tie.Need-bounds-rows-k invariant-loop decreases-loop
 shared-slice-read-x c = omega arith
 
-shared-slice-read-y : tie.Need-shared-slice-read-y invariant-loop decreases-loop
+shared-slice-read-y : tie.Need-bounds-columns-k invariant-loop decreases-loop
 shared-slice-read-y c = omega arith
 
-loop-holds : tie.Need-loop-init invariant-loop decreases-loop
+loop-holds : tie.Need-loop-j-init invariant-loop decreases-loop
 loop-holds c = (omega arith, refl)
 
-sub-j : tie.Need-overflow-sub-j invariant-loop decreases-loop
+sub-j : tie.Need-overflow_sub-j invariant-loop decreases-loop
 sub-j c = omega arith
 
-shared-slice-read-find-entry : tie.Need-shared-slice-read-find-entry invariant-loop decreases-loop
+shared-slice-read-find-entry : tie.Need-bounds-rows-j invariant-loop decreases-loop
 shared-slice-read-find-entry c = omega arith
 
-shared-slice-read-find-entry-2 : tie.Need-shared-slice-read-find-entry-2 invariant-loop decreases-loop
+shared-slice-read-find-entry-2 : tie.Need-bounds-columns-j invariant-loop decreases-loop
 shared-slice-read-find-entry-2 c = omega arith
 
-shared-slice-read-find-entry-3 : tie.Need-shared-slice-read-find-entry-3 invariant-loop decreases-loop
+shared-slice-read-find-entry-3 : tie.Need-bounds-chosen-j invariant-loop decreases-loop
 shared-slice-read-find-entry-3 c = omega arith
 
-find-entry-requires : tie.Need-find-entry-requires invariant-loop decreases-loop
+find-entry-requires : tie.Need-find_entry-requires invariant-loop decreases-loop
 find-entry-requires c κs =
-    let l = c.before.before.before.before in
-    let s = l.before.before.before.before.before.before.requires in
-    let low : l.loop.j - 1 < l.loop.j = omega arith in
-    let within : l.loop.j - 1 < l.before.before.before.before.before.before.args.k = omega (arith, l.loop.invariant.0) in
-    (s.0, s.1.each (l.loop.j - 1) within, s.1.last)
+    let s = c.before.before.before.before.before.before.before.before.before.before.requires in
+    let low : c.before.before.before.before.loop-j.j - 1 < c.before.before.before.before.loop-j.j = omega arith in
+    let within : c.before.before.before.before.loop-j.j - 1 < c.before.before.before.before.before.before.before.before.before.before.args.k = omega (arith, c.before.before.before.before.loop-j.invariant.0) in
+    (s.0, s.1.each (c.before.before.before.before.loop-j.j - 1) within, s.1.last)
 
-returns : tie.Need-returns invariant-loop decreases-loop
+returns : tie.Need-returns-then-find_entry-ne-CLEAR invariant-loop decreases-loop
 returns c =
-    let v = c.before.before.before.before.before.before.loop.invariant.1 in
-    sym (v ∙ entries_next _ _ _ _ _ _ _ (omega arith) c.before.find-entry.ensures (ne_eqb _ 0 c.if1.true))
+    let v = c.before.before.before.before.before.before.loop-j.invariant.1 in
+    sym (v ∙ entries_next _ _ _ _ _ _ _ (omega arith) c.before.find_entry.ensures (ne_eqb _ 0 c.if-find_entry-ne-CLEAR.true))
 
-loop-less : tie.Need-loop-smaller invariant-loop decreases-loop
+loop-less : tie.Need-loop-j-smaller invariant-loop decreases-loop
 loop-less c = omega arith
 
-loop-again : tie.Need-loop-preserved invariant-loop decreases-loop
+loop-again : tie.Need-loop-j-preserved invariant-loop decreases-loop
 loop-again c =
-    let v = c.before.before.before.before.before.before.loop.invariant in
-    (omega arith, v.1 ∙ entries_next _ _ _ _ _ _ _ (omega arith) c.before.find-entry.ensures (eq-eqb _ 0 c.if1.false))
+    let v = c.before.before.before.before.before.before.loop-j.invariant in
+    (omega arith, v.1 ∙ entries_next _ _ _ _ _ _ _ (omega arith) c.before.find_entry.ensures (eq-eqb _ 0 c.if-find_entry-ne-CLEAR.false))
 
-returns-2 : tie.Need-returns-2 invariant-loop decreases-loop
-returns-2 c = sym (c.before.loop.invariant.1 ∙ entries_none _ _ _ _ _ _ (omega arith))
+returns-2 : tie.Need-returns invariant-loop decreases-loop
+returns-2 c = sym (c.before.loop-j.invariant.1 ∙ entries_none _ _ _ _ _ _ (omega arith))
 
-pub is-clear-of-spec : {M : Type 1} → statement M
-is-clear-of-spec =
+pub is_clear_of_spec : {M : Type 1} → statement M
+is_clear_of_spec =
     tie.close
     (tie.spec
     invariant-loop

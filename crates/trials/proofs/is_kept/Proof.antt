@@ -9,52 +9,50 @@ use Rattle.trials.proofs.is_kept.Statement.{statement}
 use Rattle.trials.proofs.is_kept.Tie as tie
 
 -- the call
-abbrev began : tie.After-is-open-once → tie.Start
+abbrev began : tie.After-is_open_once → tie.Start
 began c = c.before.before.before.before.before.before.before.before
 
-is-open-once-requires : tie.Need-is-open-once-requires
+is-open-once-requires : tie.Need-is_open_once-requires
 is-open-once-requires c κs = search rules
 
-same_length : tie.Need-same-length
+same_length : tie.Need-shape_of-notes-then-not-is_open_once
 same_length c = search rules
 
-returns : tie.Need-returns
+returns : tie.Need-returns-then-not-is_open_once
 returns c =
-    let o = c.before.before.before.is-open-once.ensures in
-    (keeps_by _ _ _ _ _ o.0 (not-true _ c.if1.true) refl, o.1)
+    let o = c.before.before.before.is_open_once.ensures in
+    (keeps_by _ _ _ _ _ o.0 (not-true _ c.if-not-is_open_once.true-raw) refl, o.1)
 
-same-length-2 : tie.Need-same-length-2
+same-length-2 : tie.Need-shape_of-notes-then-d-eq1
 same-length-2 c = search rules
 
-returns-2 : tie.Need-returns-2
+returns-2 : tie.Need-returns-then-d-eq1
 returns-2 c =
-    let q = c.before.before.before.before in
-    let o = q.is-open-once.ensures in
-    let s = began q in
-    let south = south_clear s.pre.0.search _ s.args.k s.pre.1 s.pre.2 s.args.k (omega arith) in
-    (keeps_by _ _ _ _ _ o.0 (not-false _ c.before.if1.false) (rw c.if2.true south), o.1)
+    let o = c.before.before.before.before.is_open_once.ensures in
+    let s = began c.before.before.before.before in
+    let south = south_clear s.requires.0.search _ s.args.k s.requires.1 s.requires.2 s.args.k (omega arith) in
+    (keeps_by _ _ _ _ _ o.0 (not-false _ c.before.if-not-is_open_once.false-raw) (rw c.if-d-eq1.true south), o.1)
 
-is-clear-of-requires : tie.Need-is-clear-of-requires
+is-clear-of-requires : tie.Need-is_clear_of-requires
 is-clear-of-requires c κs =
     let s = began c.before.before.before.before in
-    let r = s.pre.0 in
-    (r.clashes, kept_at r.search _ s.args.k s.pre.1 s.pre.2 r.beside s.args.d s.pre.3 s.pre.4 r.room)
+    let r = s.requires.0 in
+    (r.clashes, kept_at r.search _ s.args.k s.requires.1 s.requires.2 r.beside s.args.d s.requires.3 s.requires.4 r.room)
 
-same-length-3 : tie.Need-same-length-3
+same-length-3 : tie.Need-shape_of-notes
 same-length-3 c = search rules
 
-returns-3 : tie.Need-returns-3
+returns-3 : tie.Need-returns
 returns-3 c =
-    let q = c.before.before.before.before.before in
-    let o = q.is-open-once.ensures in
-    let s = began q in
-    let r = s.pre.0 in
+    let o = c.before.before.before.before.before.is_open_once.ensures in
+    let s = began c.before.before.before.before.before in
+    let r = s.requires.0 in
     let k = s.args.k in
-    let e = entries_are_clear r.search _ k s.pre.1 s.pre.2 r.beside _ s.pre.3 s.pre.4 k (omega arith) in
-    (keeps_by _ _ _ _ _ o.0 (not-false _ c.before.before.if1.false) (sym (c.is-clear-of.ensures ∙ e)), o.1)
+    let e = entries_are_clear r.search _ k s.requires.1 s.requires.2 r.beside _ s.requires.3 s.requires.4 k (omega arith) in
+    (keeps_by _ _ _ _ _ o.0 (not-false _ c.before.before.if-not-is_open_once.false-raw) (sym (c.is_clear_of.ensures ∙ e)), o.1)
 
-pub is-kept-spec : {M : Type 1} → statement M
-is-kept-spec =
+pub is_kept_spec : {M : Type 1} → statement M
+is_kept_spec =
     tie.close
     (tie.spec
     is-open-once-requires

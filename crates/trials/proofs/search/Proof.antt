@@ -13,78 +13,77 @@ use Rattle.trials.proofs.Testing.{keeps_open}
 use Rattle.trials.proofs.search.Statement.{statement}
 use Rattle.trials.proofs.search.Tie as tie
 
-abbrev invariant-loop : tie.invariant-loop
+abbrev invariant-loop : tie.invariant-loop-k
 invariant-loop n m grid starts rows columns table notes₀ chosen₀ limit k₀ d₀ spent₀ notes chosen k d spent =
     State (keeps_on n m grid) (is_open n m grid) starts limit (length chosen₀) chosen k d spent × Noted n m grid starts notes
     × (length notes ≡ length notes₀)
 
-abbrev decreases-loop : tie.decreases-loop
+abbrev decreases-loop : tie.decreases-loop-k
 decreases-loop n m grid starts rows columns table notes₀ chosen₀ limit k₀ d₀ spent₀ notes chosen k d spent =
     2 * (limit - spent) + k
 
 -- the turn of a trial, and what was known when it began
-abbrev turn : tie.After-is-kept invariant-loop decreases-loop → tie.At-loop invariant-loop decreases-loop
-turn c = c.before.before.before.before.before.before
+abbrev turn : tie.After-is_kept invariant-loop decreases-loop → tie.At-loop-k invariant-loop decreases-loop
+turn c = c.before.before.before.before.before
 
 -- the notes are as many after it
-as_many : (c : tie.After-is-kept invariant-loop decreases-loop) → length c.is-kept.new.1.1.1.1.1.1.1.0 ≡ length (turn c).loop.notes
-as_many c = c.is-kept.auto.1.1.1.1.1.1.1.0
+as_many : (c : tie.After-is_kept invariant-loop decreases-loop) → length c.is_kept.new.notes ≡ length (turn c).loop-k.notes
+as_many c = c.is_kept.auto.notes
 
-loop-holds : tie.Need-loop-init invariant-loop decreases-loop
+loop-holds : tie.Need-loop-k-init invariant-loop decreases-loop
 loop-holds c =
     let r = c.before.before.before.before.before.before.requires in
     (enter _ _ _ _ _ _ refl r.room, r.noted, refl)
 
-same_length : tie.Need-same-length invariant-loop decreases-loop
-same_length c = c.before.before.before.loop.invariant.2
+same_length : tie.Need-shape_of-notes-then-k-eq0 invariant-loop decreases-loop
+same_length c = c.before.before.before.loop-k.invariant.2
 
-same-length-2 : tie.Need-same-length-2 invariant-loop decreases-loop
-same-length-2 c = c.before.before.before.loop.invariant.0.same
+same-length-2 : tie.Need-shape_of-chosen-then-k-eq0 invariant-loop decreases-loop
+same-length-2 c = c.before.before.before.loop-k.invariant.0.same
 
-returns : tie.Need-returns invariant-loop decreases-loop
+returns : tie.Need-returns-then-k-eq0 invariant-loop decreases-loop
 unfolding searched
-returns c = over _ _ _ _ _ c.before.before.before.loop.invariant.0 (omega arith) (omega arith) (omega arith) _
+returns c = over _ _ _ _ _ c.before.before.before.loop-k.invariant.0 (omega arith) (omega arith) (omega arith) _
 
-sub-k : tie.Need-overflow-sub-k invariant-loop decreases-loop
+sub-k : tie.Need-overflow_sub-k invariant-loop decreases-loop
 sub-k c = omega arith
 
-slice-read-d : tie.Need-slice-read-d invariant-loop decreases-loop
+slice-read-d : tie.Need-bounds-chosen-k invariant-loop decreases-loop
 slice-read-d c = omega arith
 
-add-d : tie.Need-overflow-add-d invariant-loop decreases-loop
-add-d c = let l = c.before.before.before.before.loop in omega (arith, (l.invariant.0.kept (l.k - 1) (omega arith)).1)
+add-d : tie.Need-overflow_add-d invariant-loop decreases-loop
+add-d c = let l = c.before.before.before.before.loop-k in omega (arith, (l.invariant.0.kept (l.k - 1) (omega arith)).1)
 
-loop-less : tie.Need-loop-smaller invariant-loop decreases-loop
+loop-less : tie.Need-loop-k-smaller-then-d-gt4 invariant-loop decreases-loop
 loop-less c = omega arith
 
-loop-again : tie.Need-loop-preserved invariant-loop decreases-loop
+loop-again : tie.Need-loop-k-preserved-then-d-gt4 invariant-loop decreases-loop
 loop-again c =
-    let v = c.before.before.before.before.loop.invariant in
-    (up _ _ _ _ _ v.0 (omega arith) (omega arith) c.before.if2.false, v.1, v.2)
+    let v = c.before.before.before.before.loop-k.invariant in
+    (up _ _ _ _ _ v.0 (omega arith) (omega arith) c.before.if-k-eq0.false, v.1, v.2)
 
-same-length-3 : tie.Need-same-length-3 invariant-loop decreases-loop
-same-length-3 c = c.before.before.before.loop.invariant.2
+same-length-3 : tie.Need-shape_of-notes-then-spent-limit invariant-loop decreases-loop
+same-length-3 c = c.before.before.before.loop-k.invariant.2
 
-same-length-4 : tie.Need-same-length-4 invariant-loop decreases-loop
-same-length-4 c = c.before.before.before.loop.invariant.0.same
+same-length-4 : tie.Need-shape_of-chosen-then-spent-limit invariant-loop decreases-loop
+same-length-4 c = c.before.before.before.loop-k.invariant.0.same
 
-returns-2 : tie.Need-returns-2 invariant-loop decreases-loop
+returns-2 : tie.Need-returns-then-spent-limit invariant-loop decreases-loop
 unfolding searched
-returns-2 c = out _ _ _ _ _ c.before.before.before.loop.invariant.0 (omega arith) (omega arith) (omega arith) _
+returns-2 c = out _ _ _ _ _ c.before.before.before.loop-k.invariant.0 (omega arith) (omega arith) (omega arith) _
 
-add-spent : tie.Need-overflow-add-spent invariant-loop decreases-loop
+add-spent : tie.Need-overflow_add-spent invariant-loop decreases-loop
 add-spent c = omega arith
 
-is-kept-requires : tie.Need-is-kept-requires invariant-loop decreases-loop
+is-kept-requires : tie.Need-is_kept-requires invariant-loop decreases-loop
 is-kept-requires c κs =
-    let l = c.before.before.before.before.before in
-    let v = l.loop.invariant.0 in
-    let r = l.before.before.before.before.before.before.before.requires in (
+    let v = c.before.before.before.before.loop-k.invariant.0 in
+    let r = c.before.before.before.before.before.before.before.before.before.before.before.requires in (
       record {
         search = r.search;
         beside = r.beside;
         clashes = r.clashes;
-        noted = l.loop.invariant.1;
+        noted = c.before.before.before.before.loop-k.invariant.1;
         room = omega (arith, r.room, v.same);
       },
       omega arith,
@@ -93,52 +92,50 @@ is-kept-requires c κs =
       omega arith,
     )
 
-slice-write-chosen : tie.Need-slice-write-chosen invariant-loop decreases-loop
+slice-write-chosen : tie.Need-bounds-chosen-k-then-is_kept invariant-loop decreases-loop
 slice-write-chosen c = omega arith
 
-add-k : tie.Need-overflow-add-k invariant-loop decreases-loop
+add-k : tie.Need-overflow_add-k invariant-loop decreases-loop
 add-k c = omega arith
 
-loop-less-2 : tie.Need-loop-smaller-2 invariant-loop decreases-loop
+loop-less-2 : tie.Need-loop-k-smaller-then-is_kept invariant-loop decreases-loop
 loop-less-2 c = omega arith
 
-loop-again-2 : tie.Need-loop-preserved-2 invariant-loop decreases-loop
+loop-again-2 : tie.Need-loop-k-preserved-then-is_kept invariant-loop decreases-loop
 loop-again-2 c =
-    let q = c.before.before.before in
-    let v = (turn q).loop.invariant in
-    let e = sym q.is-kept.ensures.0 ∙ c.if4.true in (
-      yes _ _ _ _ _ v.0 (omega arith) (omega arith) q.before.before.before.if3.false (keeps_open _ _ _ _ _ e) e,
-      q.is-kept.ensures.1,
-      as_many q ∙ v.2,
+    let v = (turn c.before.before.before).loop-k.invariant in
+    let e = sym c.before.before.before.is_kept.ensures.0 ∙ c.if-is_kept.true in (
+      yes _ _ _ _ _ v.0 (omega arith) (omega arith) c.before.before.before.before.before.if-spent-limit.false (keeps_open _ _ _ _ _ e) e,
+      c.before.before.before.is_kept.ensures.1,
+      as_many c.before.before.before ∙ v.2,
     )
 
-add-d-2 : tie.Need-overflow-add-d-2 invariant-loop decreases-loop
+add-d-2 : tie.Need-overflow_add-d-else-is_kept invariant-loop decreases-loop
 add-d-2 c = omega arith
 
-loop-less-3 : tie.Need-loop-smaller-3 invariant-loop decreases-loop
+loop-less-3 : tie.Need-loop-k-smaller invariant-loop decreases-loop
 loop-less-3 c = omega arith
 
-loop-again-3 : tie.Need-loop-preserved-3 invariant-loop decreases-loop
+loop-again-3 : tie.Need-loop-k-preserved invariant-loop decreases-loop
 loop-again-3 c =
-    let q = c.before.before.before in
-    let v = (turn q).loop.invariant in (
-      no _ _ _ _ _ v.0 (omega arith) (omega arith) q.before.before.before.if3.false (sym q.is-kept.ensures.0 ∙ c.if4.false),
-      q.is-kept.ensures.1,
-      as_many q ∙ v.2,
+    let v = (turn c.before.before.before).loop-k.invariant in (
+      no _ _ _ _ _ v.0 (omega arith) (omega arith) c.before.before.before.before.before.if-spent-limit.false (sym c.before.before.before.is_kept.ensures.0 ∙ c.if-is_kept.false),
+      c.before.before.before.is_kept.ensures.1,
+      as_many c.before.before.before ∙ v.2,
     )
 
-same-length-5 : tie.Need-same-length-5 invariant-loop decreases-loop
-same-length-5 c = c.before.loop.invariant.2
+same-length-5 : tie.Need-shape_of-notes invariant-loop decreases-loop
+same-length-5 c = c.before.loop-k.invariant.2
 
-same-length-6 : tie.Need-same-length-6 invariant-loop decreases-loop
-same-length-6 c = c.before.loop.invariant.0.same
+same-length-6 : tie.Need-shape_of-chosen invariant-loop decreases-loop
+same-length-6 c = c.before.loop-k.invariant.0.same
 
-returns-3 : tie.Need-returns-3 invariant-loop decreases-loop
+returns-3 : tie.Need-returns invariant-loop decreases-loop
 unfolding searched
-returns-3 c = done _ _ _ _ _ c.before.loop.invariant.0 (omega arith)
+returns-3 c = done _ _ _ _ _ c.before.loop-k.invariant.0 (omega arith)
 
-pub search-spec : {M : Type 1} → statement M
-search-spec =
+pub search_spec : {M : Type 1} → statement M
+search_spec =
     tie.close
     (tie.spec
     invariant-loop

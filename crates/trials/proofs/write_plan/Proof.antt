@@ -7,55 +7,52 @@ use borrow.Author.Rules.{rules}
 use Rattle.trials.proofs.write_plan.Statement.{statement}
 use Rattle.trials.proofs.write_plan.Tie as tie
 
-abbrev invariant-loop : tie.invariant-loop
+abbrev invariant-loop : tie.invariant-loop-k
 invariant-loop starts chosen directions₀ k₀ directions k = Writing starts chosen k directions
 
-abbrev decreases-loop : tie.decreases-loop
+abbrev decreases-loop : tie.decreases-loop-k
 decreases-loop starts chosen directions₀ k₀ directions k = k
 
 wipe-requires : tie.Need-wipe-requires invariant-loop decreases-loop
 wipe-requires c κs = search rules
 
-loop-holds : tie.Need-loop-init invariant-loop decreases-loop
+loop-holds : tie.Need-loop-k-init invariant-loop decreases-loop
 loop-holds c = write_start _ _ _ c.before.before.wipe.ensures
 
-sub-k : tie.Need-overflow-sub-k invariant-loop decreases-loop
+sub-k : tie.Need-overflow_sub-k invariant-loop decreases-loop
 sub-k c = omega arith
 
-shared-slice-read-directions : tie.Need-shared-slice-read-directions invariant-loop decreases-loop
+shared-slice-read-directions : tie.Need-bounds-chosen-k invariant-loop decreases-loop
 shared-slice-read-directions c = omega arith
 
-mul-directions : tie.Need-overflow-mul-directions invariant-loop decreases-loop
+mul-directions : tie.Need-offset_bounds-starts-k invariant-loop decreases-loop
 mul-directions c = omega arith
 
-shared-slice-read-directions-2 : tie.Need-shared-slice-read-directions-2 invariant-loop decreases-loop
+shared-slice-read-directions-2 : tie.Need-bounds-starts-k invariant-loop decreases-loop
 shared-slice-read-directions-2 c = omega arith
 
-cast-directions : tie.Need-overflow-cast-directions invariant-loop decreases-loop
-cast-directions c = omega (arith, c.shared-slice-known4.given (c.before.before.before.loop.k - 1))
+cast-directions : tie.Need-overflow_cast-directions invariant-loop decreases-loop
+cast-directions c = omega (arith, c.shared_slice_known-in-loop-k-2-1.given (c.before.before.before.loop-k.k - 1))
 
-slice-write-directions : tie.Need-slice-write-directions invariant-loop decreases-loop
+slice-write-directions : tie.Need-bounds-directions-starts invariant-loop decreases-loop
 slice-write-directions c =
-    let l = c.before.before.before in
-    omega (arith, l.before.before.before.before.before.before.before.before.requires.2 (l.loop.k - 1) (omega arith))
+    omega (arith, c.before.before.before.before.before.before.before.before.before.before.before.requires.2 (c.before.before.before.loop-k.k - 1) (omega arith))
 
-loop-less : tie.Need-loop-smaller invariant-loop decreases-loop
+loop-less : tie.Need-loop-k-smaller invariant-loop decreases-loop
 loop-less c = omega arith
 
-loop-again : tie.Need-loop-preserved invariant-loop decreases-loop
+loop-again : tie.Need-loop-k-preserved invariant-loop decreases-loop
 loop-again c =
-    let l = c.before.before.before in
-    let s = l.before.before.before.before.before.before.before.before in
-    write_step _ _ l.loop.invariant (omega arith) s.requires.1 (s.requires.2 (l.loop.k - 1) (omega arith))
+    write_step _ _ c.before.before.before.loop-k.invariant (omega arith) c.before.before.before.before.before.before.before.before.before.before.before.requires.1 (c.before.before.before.before.before.before.before.before.before.before.before.requires.2 (c.before.before.before.loop-k.k - 1) (omega arith))
 
-same_length : tie.Need-same-length invariant-loop decreases-loop
-same_length c = let l = c.before in omega (arith, l.loop.invariant.long)
+same_length : tie.Need-shape_of-directions invariant-loop decreases-loop
+same_length c = omega (arith, c.before.loop-k.invariant.long)
 
 returns : tie.Need-returns invariant-loop decreases-loop
-returns c = write_end _ _ c.before.loop.invariant (omega arith)
+returns c = write_end _ _ c.before.loop-k.invariant (omega arith)
 
-pub write-plan-spec : {M : Type 1} → statement M
-write-plan-spec =
+pub write_plan_spec : {M : Type 1} → statement M
+write_plan_spec =
     tie.close
     (tie.spec
     invariant-loop

@@ -13,22 +13,22 @@ decreases-loop n m p d q e c₀ counter₀ c counter = 32 - counter
 loop-holds : tie.Need-loop-init invariant-loop decreases-loop
 loop-holds c = search rules
 
-has-processor-requires : tie.Need-has-processor-requires invariant-loop decreases-loop
+has-processor-requires : tie.Need-has_processor-requires invariant-loop decreases-loop
 has-processor-requires c κs = search rules
 
-returns : tie.Need-returns invariant-loop decreases-loop
+returns : tie.Need-returns-then-has_processor invariant-loop decreases-loop
 returns c = search rules
 
-is-inner-requires : tie.Need-is-inner-requires invariant-loop decreases-loop
+is-inner-requires : tie.Need-is_inner-requires invariant-loop decreases-loop
 is-inner-requires c κs = search rules
 
-returns-2 : tie.Need-returns-2 invariant-loop decreases-loop
+returns-2 : tie.Need-returns-then-not-is_inner invariant-loop decreases-loop
 returns-2 c = search rules
 
-ahead-requires : tie.Need-ahead-requires invariant-loop decreases-loop
+ahead-requires : tie.Need-ahead-c-requires invariant-loop decreases-loop
 ahead-requires c κs = search rules
 
-add-counter : tie.Need-overflow-add-counter invariant-loop decreases-loop
+add-counter : tie.Need-overflow_step invariant-loop decreases-loop
 add-counter c = search rules
 
 loop-less : tie.Need-loop-smaller invariant-loop decreases-loop
@@ -37,11 +37,11 @@ loop-less c = search rules
 loop-again : tie.Need-loop-preserved invariant-loop decreases-loop
 loop-again c = search rules
 
-returns-3 : tie.Need-returns-3 invariant-loop decreases-loop
+returns-3 : tie.Need-returns invariant-loop decreases-loop
 returns-3 c = search rules
 
-pub do-share-spec : {M : Type 1} → statement M
-do-share-spec =
+pub do_share_spec : {M : Type 1} → statement M
+do_share_spec =
     tie.close
     (tie.spec
     invariant-loop

@@ -13,19 +13,19 @@ decreases-loop n m p d c q₀ counter₀ q counter = 32 - counter
 loop-holds : tie.Need-loop-init invariant-loop decreases-loop
 loop-holds c = search rules
 
-returns : tie.Need-returns invariant-loop decreases-loop
+returns : tie.Need-returns-then-q-c invariant-loop decreases-loop
 returns c = search rules
 
-is-inner-requires : tie.Need-is-inner-requires invariant-loop decreases-loop
+is-inner-requires : tie.Need-is_inner-requires invariant-loop decreases-loop
 is-inner-requires c κs = search rules
 
-returns-2 : tie.Need-returns-2 invariant-loop decreases-loop
+returns-2 : tie.Need-returns-then-not-is_inner invariant-loop decreases-loop
 returns-2 c = search rules
 
-ahead-requires : tie.Need-ahead-requires invariant-loop decreases-loop
+ahead-requires : tie.Need-ahead-q-requires invariant-loop decreases-loop
 ahead-requires c κs = search rules
 
-add-counter : tie.Need-overflow-add-counter invariant-loop decreases-loop
+add-counter : tie.Need-overflow_step invariant-loop decreases-loop
 add-counter c = search rules
 
 loop-less : tie.Need-loop-smaller invariant-loop decreases-loop
@@ -34,11 +34,11 @@ loop-less c = search rules
 loop-again : tie.Need-loop-preserved invariant-loop decreases-loop
 loop-again c = search rules
 
-returns-3 : tie.Need-returns-3 invariant-loop decreases-loop
+returns-3 : tie.Need-returns invariant-loop decreases-loop
 returns-3 c = search rules
 
-pub has-processor-spec : {M : Type 1} → statement M
-has-processor-spec =
+pub has_processor_spec : {M : Type 1} → statement M
+has_processor_spec =
     tie.close
     (tie.spec
     invariant-loop

@@ -13,22 +13,22 @@ decreases-loop n m grid p d q₀ counter₀ q counter = 32 - counter
 loop-holds : tie.Need-loop-init invariant-loop decreases-loop
 loop-holds c = search rules
 
-is-inner-requires : tie.Need-is-inner-requires invariant-loop decreases-loop
+is-inner-requires : tie.Need-is_inner-requires invariant-loop decreases-loop
 is-inner-requires c κs = search rules
 
-returns : tie.Need-returns invariant-loop decreases-loop
+returns : tie.Need-returns-then-not-is_inner invariant-loop decreases-loop
 returns c = search rules
 
-ahead-requires : tie.Need-ahead-requires invariant-loop decreases-loop
+ahead-requires : tie.Need-ahead-q-requires invariant-loop decreases-loop
 ahead-requires c κs = search rules
 
-is-fault-requires : tie.Need-is-fault-requires invariant-loop decreases-loop
+is-fault-requires : tie.Need-is_fault-requires invariant-loop decreases-loop
 is-fault-requires c κs = search rules
 
-returns-2 : tie.Need-returns-2 invariant-loop decreases-loop
+returns-2 : tie.Need-returns-then-is_fault invariant-loop decreases-loop
 returns-2 c = search rules
 
-add-counter : tie.Need-overflow-add-counter invariant-loop decreases-loop
+add-counter : tie.Need-overflow_step invariant-loop decreases-loop
 add-counter c = search rules
 
 loop-less : tie.Need-loop-smaller invariant-loop decreases-loop
@@ -37,11 +37,11 @@ loop-less c = search rules
 loop-again : tie.Need-loop-preserved invariant-loop decreases-loop
 loop-again c = search rules
 
-returns-3 : tie.Need-returns-3 invariant-loop decreases-loop
+returns-3 : tie.Need-returns invariant-loop decreases-loop
 returns-3 c = search rules
 
-pub is-met-spec : {M : Type 1} → statement M
-is-met-spec =
+pub is_met_spec : {M : Type 1} → statement M
+is_met_spec =
     tie.close
     (tie.spec
     invariant-loop

@@ -10,37 +10,37 @@ invariant-loop grid directions across down p side marks₀ w₀ counter₀ marks
 abbrev decreases-loop : tie.decreases-loop
 decreases-loop grid directions across down p side marks₀ w₀ counter₀ marks w counter = 64 - counter
 
-add-one-requires : tie.Need-add-one-requires invariant-loop decreases-loop
+add-one-requires : tie.Need-add_one-requires invariant-loop decreases-loop
 add-one-requires c κs = search rules
 
-mul-t14 : tie.Need-overflow-mul-t14 invariant-loop decreases-loop
+mul-t14 : tie.Need-overflow_mul-w invariant-loop decreases-loop
 mul-t14 c = search rules
 
-mul-t16 : tie.Need-overflow-mul-t16 invariant-loop decreases-loop
+mul-t16 : tie.Need-overflow_mul-w-2 invariant-loop decreases-loop
 mul-t16 c = search rules
 
-add-t17 : tie.Need-overflow-add-t17 invariant-loop decreases-loop
+add-t17 : tie.Need-overflow_add-w invariant-loop decreases-loop
 add-t17 c = search rules
 
-mul-t19 : tie.Need-overflow-mul-t19 invariant-loop decreases-loop
+mul-t19 : tie.Need-overflow_mul-w-3 invariant-loop decreases-loop
 mul-t19 c = search rules
 
-add-t20 : tie.Need-overflow-add-t20 invariant-loop decreases-loop
+add-t20 : tie.Need-overflow_add-w-2 invariant-loop decreases-loop
 add-t20 c = search rules
 
 loop-holds : tie.Need-loop-init invariant-loop decreases-loop
 loop-holds c = search rules
 
-same_length : tie.Need-same-length invariant-loop decreases-loop
+same_length : tie.Need-shape_of-marks-then-w-ne0 invariant-loop decreases-loop
 same_length c = search rules
 
-returns : tie.Need-returns invariant-loop decreases-loop
+returns : tie.Need-returns-then-w-ne0 invariant-loop decreases-loop
 returns c = search rules
 
-advance-requires : tie.Need-advance-requires invariant-loop decreases-loop
+advance-requires : tie.Need-advance-w-requires invariant-loop decreases-loop
 advance-requires c κs = search rules
 
-add-counter : tie.Need-overflow-add-counter invariant-loop decreases-loop
+add-counter : tie.Need-overflow_step invariant-loop decreases-loop
 add-counter c = search rules
 
 loop-less : tie.Need-loop-smaller invariant-loop decreases-loop
@@ -49,14 +49,14 @@ loop-less c = search rules
 loop-again : tie.Need-loop-preserved invariant-loop decreases-loop
 loop-again c = search rules
 
-same-length-2 : tie.Need-same-length-2 invariant-loop decreases-loop
+same-length-2 : tie.Need-shape_of-marks invariant-loop decreases-loop
 same-length-2 c = search rules
 
-returns-2 : tie.Need-returns-2 invariant-loop decreases-loop
+returns-2 : tie.Need-returns invariant-loop decreases-loop
 returns-2 c = search rules
 
-pub follow-spec : {M : Type 1} → statement M
-follow-spec =
+pub follow_spec : {M : Type 1} → statement M
+follow_spec =
     tie.close
     (tie.spec
     invariant-loop
