@@ -73,6 +73,6 @@ pub completed_written : (limit : ℕ) (kept : List Fault) (starts : List ℕ) (s
     ≡ directions_written limit kept starts s
 unfolding completed_by directions_written outcome
 completed_written limit kept starts (found k xs) =
-    by_bool (leb k limit) (λ e. rw (e, completed_by) (buffer_both kept (paired starts xs))) (λ e. rw (e, completed_by))
+    by_bool (leb k limit) (λ e. rw (e, completed_by, e) (buffer_both kept (paired starts xs))) (λ e. rw (e, completed_by, e))
 completed_written limit kept starts (exhausted k) =
     by_bool (leb k limit) (λ e. rw (e, completed_by)) (λ e. rw (e, completed_by))

@@ -8,37 +8,36 @@ use native.Mathlib.Omega.{arith}
 use Rattle.exact.proofs.copy.Statement.{statement}
 use Rattle.exact.proofs.copy.Tie as tie
 
-abbrev invariant-loop : tie.invariant-loop
+abbrev invariant-loop : tie.invariant-loop-k
 invariant-loop from to₀ k₀ to k = Filling (element_of from) 128 k to
 
-abbrev decreases-loop : tie.decreases-loop
+abbrev decreases-loop : tie.decreases-loop-k
 decreases-loop from to₀ k₀ to k = 128 - k
 
-loop-holds : tie.Need-loop-init invariant-loop decreases-loop
+loop-holds : tie.Need-loop-k-init invariant-loop decreases-loop
 loop-holds c = fill_start (element_of c.args.from.now) _ c.requires.1
 
-shared-slice-read-to : tie.Need-shared-slice-read-to invariant-loop decreases-loop
+shared-slice-read-to : tie.Need-bounds-from-k invariant-loop decreases-loop
 shared-slice-read-to c = omega arith
 
-slice-write-to : tie.Need-slice-write-to invariant-loop decreases-loop
+slice-write-to : tie.Need-bounds-to-k invariant-loop decreases-loop
 slice-write-to c = omega arith
 
-add-k : tie.Need-overflow-add-k invariant-loop decreases-loop
+add-k : tie.Need-overflow_step-k invariant-loop decreases-loop
 add-k c = omega arith
 
-loop-less : tie.Need-loop-smaller invariant-loop decreases-loop
+loop-less : tie.Need-loop-k-smaller invariant-loop decreases-loop
 loop-less c = omega arith
 
-loop-again : tie.Need-loop-preserved invariant-loop decreases-loop
-loop-again c = fill_step c.before.before.loop.invariant _ (omega arith) refl
+loop-again : tie.Need-loop-k-preserved invariant-loop decreases-loop
+loop-again c = fill_step c.loop-k.invariant _ (omega arith) refl
 
-same_length : tie.Need-same-length invariant-loop decreases-loop
-same_length c = c.before.loop.invariant.long ∙ sym c.before.before.requires.1
+same_length : tie.Need-shape_of-to invariant-loop decreases-loop
+same_length c = c.loop-k.invariant.long ∙ sym c.requires.1
 
 returns : tie.Need-returns invariant-loop decreases-loop
 returns c =
-    let s = c.before.before in
-    fill_end c.before.loop.invariant (omega arith) ∙ copied s.args.from.now 128 s.requires.0
+    fill_end c.loop-k.invariant (omega arith) ∙ copied c.args.from.now 128 c.requires.0
 
 pub copy_spec : {M : Type 1} → statement M
 copy_spec =

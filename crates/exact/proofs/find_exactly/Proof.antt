@@ -5,39 +5,39 @@ use borrow.Author.Rules.{rules}
 use Rattle.exact.proofs.find_exactly.Statement.{statement}
 use Rattle.exact.proofs.find_exactly.Tie as tie
 
-slice-aggregate-list-faults : tie.Need-slice-aggregate-list-faults
+slice-aggregate-list-faults : tie.Need-slice_bounds-list_faults-end
 slice-aggregate-list-faults c = search rules
 
-list-faults-requires : tie.Need-list-faults-requires
+list-faults-requires : tie.Need-list_faults-count-requires
 list-faults-requires c κs = search rules
 
-array-share-prefix-starts : tie.Need-array-share-prefix-starts
+array-share-prefix-starts : tie.Need-slice_bounds-starts-end
 array-share-prefix-starts c = search rules
 
-slice-aggregate-find-among : tie.Need-slice-aggregate-find-among
+slice-aggregate-find-among : tie.Need-slice_bounds-find_among-end
 slice-aggregate-find-among c = search rules
 
-find-among-requires : tie.Need-find-among-requires
+find-among-requires : tie.Need-find_among-requires
 find-among-requires c κs = search rules
 
-same_length : tie.Need-same-length
+same_length : tie.Need-shape_of-directions-then-find_among
 same_length c = search rules
 
-returns : tie.Need-returns
+returns : tie.Need-returns-then-find_among
 returns c =
-    let e = c.before.before.before.find-among.ensures in
-    (decided_found _ e.0 c.if1.true, e.1)
+    let e = c.find_among.ensures in
+    (decided_found _ e.0 c.if-find_among.true, e.1)
 
-same-length-2 : tie.Need-same-length-2
+same-length-2 : tie.Need-shape_of-directions
 same-length-2 c = search rules
 
-returns-2 : tie.Need-returns-2
+returns-2 : tie.Need-returns
 returns-2 c =
-    let e = c.before.before.before.find-among.ensures in
-    (decided_none _ e.0 c.if1.false, e.1)
+    let e = c.find_among.ensures in
+    (decided_none _ e.0 c.if-find_among.false, e.1)
 
-pub find-exactly-spec : {M : Type 1} → statement M
-find-exactly-spec =
+pub find_exactly_spec : {M : Type 1} → statement M
+find_exactly_spec =
     tie.close
     (tie.spec
     slice-aggregate-list-faults

@@ -8,56 +8,56 @@ use Rattle.exact.proofs.Pairs.{stuck_here}
 use Rattle.exact.proofs.have_paths.Statement.{statement}
 use Rattle.exact.proofs.have_paths.Tie as tie
 
-abbrev invariant-loop : tie.invariant-loop
+abbrev invariant-loop : tie.invariant-loop-k
 invariant-loop count table k₀ k = k ≤ count
 
-abbrev decreases-loop : tie.decreases-loop
+abbrev decreases-loop : tie.decreases-loop-k
 decreases-loop count table k₀ k = count - k
 
-loop-holds : tie.Need-loop-init invariant-loop decreases-loop
+loop-holds : tie.Need-loop-k-init invariant-loop decreases-loop
 loop-holds c = omega arith
 
-mul-i : tie.Need-overflow-mul-i invariant-loop decreases-loop
+mul-i : tie.Need-overflow_mul-i invariant-loop decreases-loop
 mul-i c = omega arith
 
-shared-slice-read-vertical : tie.Need-shared-slice-read-vertical invariant-loop decreases-loop
+shared-slice-read-vertical : tie.Need-bounds-table-i invariant-loop decreases-loop
 shared-slice-read-vertical c = omega arith
 
-add-vertical : tie.Need-overflow-add-vertical invariant-loop decreases-loop
+add-vertical : tie.Need-overflow_add-vertical invariant-loop decreases-loop
 add-vertical c = omega arith
 
-shared-slice-read-vertical-2 : tie.Need-shared-slice-read-vertical-2 invariant-loop decreases-loop
+shared-slice-read-vertical-2 : tie.Need-bounds-table-i-in-loop-k invariant-loop decreases-loop
 shared-slice-read-vertical-2 c = omega arith
 
-add-horizontal : tie.Need-overflow-add-horizontal invariant-loop decreases-loop
+add-horizontal : tie.Need-overflow_add-horizontal invariant-loop decreases-loop
 add-horizontal c = omega arith
 
-shared-slice-read-horizontal : tie.Need-shared-slice-read-horizontal invariant-loop decreases-loop
+shared-slice-read-horizontal : tie.Need-bounds-table-i-in-loop-k-2 invariant-loop decreases-loop
 shared-slice-read-horizontal c = omega arith
 
-add-horizontal-2 : tie.Need-overflow-add-horizontal-2 invariant-loop decreases-loop
+add-horizontal-2 : tie.Need-overflow_add-horizontal-in-loop-k invariant-loop decreases-loop
 add-horizontal-2 c = omega arith
 
-shared-slice-read-horizontal-2 : tie.Need-shared-slice-read-horizontal-2 invariant-loop decreases-loop
+shared-slice-read-horizontal-2 : tie.Need-bounds-table-i-in-loop-k-3 invariant-loop decreases-loop
 shared-slice-read-horizontal-2 c = omega arith
 
-returns : tie.Need-returns invariant-loop decreases-loop
-returns c = judge_no (stuck_here _ _ _ refl _ (omega arith) c.if1.true)
+returns : tie.Need-returns-then-not-vertical-horizontal invariant-loop decreases-loop
+returns c = judge_no (stuck_here _ _ _ refl _ (omega arith) c.if-not-vertical-horizontal.true-raw)
 
-add-k : tie.Need-overflow-add-k invariant-loop decreases-loop
+add-k : tie.Need-overflow_step-k invariant-loop decreases-loop
 add-k c = omega arith
 
-loop-less : tie.Need-loop-smaller invariant-loop decreases-loop
+loop-less : tie.Need-loop-k-smaller invariant-loop decreases-loop
 loop-less c = omega arith
 
-loop-again : tie.Need-loop-preserved invariant-loop decreases-loop
+loop-again : tie.Need-loop-k-preserved invariant-loop decreases-loop
 loop-again c = omega arith
 
-returns-2 : tie.Need-returns-2 invariant-loop decreases-loop
+returns-2 : tie.Need-returns invariant-loop decreases-loop
 returns-2 c = judge_yes tt
 
-pub have-paths-spec : {M : Type 1} → statement M
-have-paths-spec =
+pub have_paths_spec : {M : Type 1} → statement M
+have_paths_spec =
     tie.close
     (tie.spec
     invariant-loop

@@ -13,28 +13,27 @@ use native.Mathlib.Omega.{arith}
 use Rattle.exact.proofs.solve.Statement.{statement}
 use Rattle.exact.proofs.solve.Tie as tie
 
-abbrev invariant-loop : tie.invariant-loop
+abbrev invariant-loop : tie.invariant-loop-k
 invariant-loop clashes starts lists ends rest lo₀ hi₀ done₀ k₀ k-end lo hi done k =
     (k-end ≡ length starts) × Solving (length starts) (clears_on starts) lo₀ hi₀ k lo hi done
 
-abbrev decreases-loop : tie.decreases-loop
+abbrev decreases-loop : tie.decreases-loop-k
 decreases-loop clashes starts lists ends rest lo₀ hi₀ done₀ k₀ k-end lo hi done k = k-end - k
 
-loop-holds : tie.Need-loop-init invariant-loop decreases-loop
+loop-holds : tie.Need-loop-k-init invariant-loop decreases-loop
 loop-holds c =
-    let p = c.before.before.before.before.before.before.before.requires in (
+    let p = c.requires in (
       refl,
-      solve_start _ _ (clears_comm c.before.before.before.before.before.before.before.args.starts.now) p.0.done_long p.0.held p.1 p.0.marked,
+      solve_start _ _ (clears_comm c.args.starts.now) p.0.done_long p.0.held p.1 p.0.marked,
     )
 
 settle-requires : tie.Need-settle-requires invariant-loop decreases-loop
 settle-requires c κs =
-    let s = c.before.before.before.before.before.before.before.before.before.before.before.before in
-    let v = c.before.before.before.before.loop.invariant.1 in (
+    let v = c.loop-k.invariant.1 in (
       record {
-        sited = s.requires.0.sited;
+        sited = c.requires.0.sited;
         held = v.held;
-        listed = still_listed v.narrowed s.requires.0.listed;
+        listed = still_listed v.narrowed c.requires.0.listed;
         done_long = v.done_long;
         marked = v.marked;
       },
@@ -42,62 +41,62 @@ settle-requires c κs =
       v.closed,
     )
 
-same_length : tie.Need-same-length invariant-loop decreases-loop
+same_length : tie.Need-shape_of-lo-then-not-settle invariant-loop decreases-loop
 same_length c =
-    c.before.before.before.before.before.before.before.settle.ensures.0.low_long ∙ sym c.before.before.before.before.before.before.before.before.before.before.before.before.before.before.before.before.before.before.before.before.requires.0.held.low_long
+    c.settle.ensures.0.low_long ∙ sym c.requires.0.held.low_long
 
-same-length-2 : tie.Need-same-length-2 invariant-loop decreases-loop
+same-length-2 : tie.Need-shape_of-hi-then-not-settle invariant-loop decreases-loop
 same-length-2 c =
-    c.before.before.before.before.before.before.before.settle.ensures.0.high_long ∙ sym c.before.before.before.before.before.before.before.before.before.before.before.before.before.before.before.before.before.before.before.before.requires.0.held.high_long
+    c.settle.ensures.0.high_long ∙ sym c.requires.0.held.high_long
 
-same-length-3 : tie.Need-same-length-3 invariant-loop decreases-loop
+same-length-3 : tie.Need-shape_of-done-then-not-settle invariant-loop decreases-loop
 same-length-3 c =
-    c.before.before.before.before.before.before.before.settle.ensures.1 ∙ sym c.before.before.before.before.before.before.before.before.before.before.before.before.before.before.before.before.before.before.before.before.requires.0.done_long
+    c.settle.ensures.1 ∙ sym c.requires.0.done_long
 
-returns : tie.Need-returns invariant-loop decreases-loop
+returns : tie.Need-returns-then-not-settle invariant-loop decreases-loop
 returns c =
-    let e = c.before.before.before.before.before.before.before.settle.ensures in
-    let v = c.before.before.before.before.before.before.before.before.before.before.before.before.loop.invariant.1 in (
+    let e = c.settle.ensures in
+    let v = c.loop-k.invariant.1 in (
       e.0,
-      judge_no (solve_none _ _ (clears_comm c.before.before.before.before.before.before.before.before.before.before.before.before.before.before.before.before.before.before.before.before.args.starts.now) v (e.2.no (not-true _ c.if1.true))),
+      judge_no (solve_none _ _ (clears_comm c.args.starts.now) v (e.2.no (not-true _ c.if-not-settle.true-raw))),
     )
 
-add-k : tie.Need-overflow-add-k invariant-loop decreases-loop
+add-k : tie.Need-overflow_step-k invariant-loop decreases-loop
 add-k c = omega arith
 
-loop-less : tie.Need-loop-smaller invariant-loop decreases-loop
+loop-less : tie.Need-loop-k-smaller invariant-loop decreases-loop
 loop-less c = omega arith
 
-loop-again : tie.Need-loop-preserved invariant-loop decreases-loop
+loop-again : tie.Need-loop-k-preserved invariant-loop decreases-loop
 loop-again c =
-    let e = c.before.before.before.before.before.before.before.settle.ensures in
-    let v = c.before.before.before.before.before.before.before.before.before.before.before.before.loop.invariant.1 in (
+    let e = c.settle.ensures in
+    let v = c.loop-k.invariant.1 in (
       refl,
-      solve_next _ _ (clears_comm c.before.before.before.before.before.before.before.before.before.before.before.before.before.before.before.before.before.before.before.before.args.starts.now) v
-          (omega arith) e.1 e.0 (e.2.yes (not-false _ c.if1.false)),
+      solve_next _ _ (clears_comm c.args.starts.now) v
+          (omega arith) e.1 e.0 (e.2.yes (not-false _ c.if-not-settle.false-raw)),
     )
 
-same-length-4 : tie.Need-same-length-4 invariant-loop decreases-loop
+same-length-4 : tie.Need-shape_of-lo invariant-loop decreases-loop
 same-length-4 c =
-    c.before.loop.invariant.1.held.low_long ∙ sym c.before.before.before.before.before.before.before.before.before.requires.0.held.low_long
+    c.loop-k.invariant.1.held.low_long ∙ sym c.requires.0.held.low_long
 
-same-length-5 : tie.Need-same-length-5 invariant-loop decreases-loop
+same-length-5 : tie.Need-shape_of-hi invariant-loop decreases-loop
 same-length-5 c =
-    c.before.loop.invariant.1.held.high_long ∙ sym c.before.before.before.before.before.before.before.before.before.requires.0.held.high_long
+    c.loop-k.invariant.1.held.high_long ∙ sym c.requires.0.held.high_long
 
-same-length-6 : tie.Need-same-length-6 invariant-loop decreases-loop
+same-length-6 : tie.Need-shape_of-done invariant-loop decreases-loop
 same-length-6 c =
-    c.before.loop.invariant.1.done_long ∙ sym c.before.before.before.before.before.before.before.before.before.requires.0.done_long
+    c.loop-k.invariant.1.done_long ∙ sym c.requires.0.done_long
 
-returns-2 : tie.Need-returns-2 invariant-loop decreases-loop
+returns-2 : tie.Need-returns invariant-loop decreases-loop
 returns-2 c =
-    let v = c.before.loop.invariant.1 in (
+    let v = c.loop-k.invariant.1 in (
       v.held,
-      judge_yes (solve_end _ _ (clears_comm c.before.before.before.before.before.before.before.before.before.args.starts.now) v (omega arith)),
+      judge_yes (solve_end _ _ (clears_comm c.args.starts.now) v (omega arith)),
     )
 
-pub solve-spec : {M : Type 1} → statement M
-solve-spec =
+pub solve_spec : {M : Type 1} → statement M
+solve_spec =
     tie.close
     (tie.spec
     invariant-loop

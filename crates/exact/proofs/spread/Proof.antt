@@ -11,75 +11,70 @@ use native.Mathlib.Omega.{arith}
 use Rattle.exact.proofs.spread.Statement.{statement}
 use Rattle.exact.proofs.spread.Tie as tie
 
-abbrev invariant-loop : tie.invariant-loop
+abbrev invariant-loop : tie.invariant-loop-f
 invariant-loop clashes starts lists ends rest lo₀ hi₀ done₀ count f₀ lo hi done f =
     (count ≡ length starts) × Spreading (length starts) (clears_on starts) lo₀ hi₀ lo hi done f
 
-abbrev decreases-loop : tie.decreases-loop
+abbrev decreases-loop : tie.decreases-loop-f
 decreases-loop clashes starts lists ends rest lo₀ hi₀ done₀ count f₀ lo hi done f = unmarked done
 
-find-next-requires : tie.Need-find-next-requires invariant-loop decreases-loop
+find-next-requires : tie.Need-find_next-f-requires invariant-loop decreases-loop
 find-next-requires c κs =
-    let s = c.before.before.before.before.before.before.before.before.before.before in (
+    (
       omega arith,
-      omega (arith, s.requires.held.room, s.requires.held.low_long),
-      omega (arith, s.requires.held.room, s.requires.held.high_long),
+      omega (arith, c.requires.held.room, c.requires.held.low_long),
+      omega (arith, c.requires.held.room, c.requires.held.high_long),
       omega
-          (arith, s.requires.held.room, s.requires.done_long),
+          (arith, c.requires.held.room, c.requires.done_long),
     )
 
-loop-holds : tie.Need-loop-init invariant-loop decreases-loop
+loop-holds : tie.Need-loop-f-init invariant-loop decreases-loop
 loop-holds c =
-    let s = c.before.before.before.before.before.before.before.before.before.before.before in
-    (refl, spread_start _ _ s.requires.held s.requires.done_long s.requires.marked c.find-next.ensures)
+    (refl, spread_start _ _ c.requires.held c.requires.done_long c.requires.marked c.find_next-f.ensures)
 
 strike-requires : tie.Need-strike-requires invariant-loop decreases-loop
 strike-requires c κs =
-    let s = c.before.before.before.before.before.before.before.before.before.before.before.before.before.before.before in
-    let l = c.before.before.before.loop in
+    let l = c.loop-f in
     let v = l.invariant.1 in
-    (s.pre.sited, v.held, omega arith, v.next.one (omega arith), still_listed v.narrowed s.pre.listed)
+    (c.requires.sited, v.held, omega arith, v.next.one (omega arith), still_listed v.narrowed c.requires.listed)
 
-same_length : tie.Need-same-length invariant-loop decreases-loop
+same_length : tie.Need-shape_of-lo-then-not-strike invariant-loop decreases-loop
 same_length c =
-    let s = c.before.before.before.before.before.before.before.before.before.before.before.before.before.before.before.before.before.before.before.before.before in
-    let strike = c.before.before.before.before.before.strike in
-    strike.ensures.0.low_long ∙ sym s.pre.held.low_long
+    let strike = c.strike in
+    strike.ensures.0.low_long ∙ sym c.requires.held.low_long
 
-same-length-2 : tie.Need-same-length-2 invariant-loop decreases-loop
+same-length-2 : tie.Need-shape_of-hi-then-not-strike invariant-loop decreases-loop
 same-length-2 c =
-    let s = c.before.before.before.before.before.before.before.before.before.before.before.before.before.before.before.before.before.before.before.before.before in
-    let strike = c.before.before.before.before.before.strike in
-    strike.ensures.0.high_long ∙ sym s.pre.held.high_long
+    let strike = c.strike in
+    strike.ensures.0.high_long ∙ sym c.requires.held.high_long
 
-same-length-3 : tie.Need-same-length-3 invariant-loop decreases-loop
+same-length-3 : tie.Need-shape_of-done-then-not-strike invariant-loop decreases-loop
 same-length-3 c =
-    let s = c.before.before.before.before.before.before.before.before.before.before.before.before.before.before.before.before.before.before.before.before.before in
-    let l = c.before.before.before.before.before.before.before.before.before.loop in
-    l.invariant.1.done_long ∙ sym s.pre.done_long
+    let l = c.loop-f in
+    l.invariant.1.done_long ∙ sym c.requires.done_long
 
-returns : tie.Need-returns invariant-loop decreases-loop
+returns : tie.Need-returns-then-not-strike invariant-loop decreases-loop
 returns c =
-    let l = c.before.before.before.before.before.before.before.before.before.loop in
-    let strike = c.before.before.before.before.before.strike in
+    let l = c.loop-f in
+    let strike = c.strike in
     let v = l.invariant.1 in (
       strike.ensures.0,
       v.done_long,
-      judge_no (spread_none _ _ v (strike.ensures.1.no (not-true _ c.if1.true))),
+      judge_no (spread_none _ _ v (strike.ensures.1.no (not-true _ c.if-not-strike.true-raw))),
     )
 
-slice-write-done : tie.Need-slice-write-done invariant-loop decreases-loop
+slice-write-done : tie.Need-bounds-done-f invariant-loop decreases-loop
 slice-write-done c =
-    let l = c.before.before.before.before.before.before.before.before.before.loop in
+    let l = c.loop-f in
     let v = l.invariant.1 in omega (arith, v.held.room, v.done_long, l.invariant.0)
 
-add-find-next : tie.Need-overflow-add-find-next invariant-loop decreases-loop
+add-find-next : tie.Need-overflow_add-f invariant-loop decreases-loop
 add-find-next c = omega arith
 
-find-next-requires-2 : tie.Need-find-next-requires-2 invariant-loop decreases-loop
+find-next-requires-2 : tie.Need-find_next-f-requires-in-loop-f invariant-loop decreases-loop
 find-next-requires-2 c κs =
-    let l = c.before.before.before.before.before.before.before.before.before.before.before.before.loop in
-    let strike = c.before.before.before.before.before.before.before.before.strike in
+    let l = c.loop-f in
+    let strike = c.strike in
     let h = strike.ensures.0 in
     let e = l.invariant.1.done_long in (
       omega arith,
@@ -89,47 +84,44 @@ find-next-requires-2 c κs =
           (arith, h.room, e)),
     )
 
-loop-less : tie.Need-loop-smaller invariant-loop decreases-loop
+loop-less : tie.Need-loop-f-smaller invariant-loop decreases-loop
 loop-less c =
-    let l = c.before.before.before.before.before.before.before.before.before.before.before.before.before.loop in
-    let v = l.inv.1 in omega (arith, spread_less _ _ v (omega arith))
+    let l = c.loop-f in
+    let v = l.invariant.1 in omega (arith, spread_less _ _ v (omega arith))
 
-loop-again : tie.Need-loop-preserved invariant-loop decreases-loop
+loop-again : tie.Need-loop-f-preserved invariant-loop decreases-loop
 loop-again c =
-    let l = c.before.before.before.before.before.before.before.before.before.before.before.before.before.loop in
-    let strike = c.before.before.before.before.before.before.before.before.before.strike in
-    let if1 = c.before.before.before.before.if1 in
-    let v = l.inv.1 in (
+    let l = c.loop-f in
+    let strike = c.strike in
+    let if1 = c.if-not-strike in
+    let v = l.invariant.1 in (
       refl,
-      spread_next _ _ v (omega arith) strike.ensures.0 (strike.ensures.1.yes (not-false _ if1.false))
-          c.find-next2.ensures,
+      spread_next _ _ v (omega arith) strike.ensures.0 (strike.ensures.1.yes if1.false)
+          c.find_next-f-in-loop-f.ensures,
     )
 
-same-length-4 : tie.Need-same-length-4 invariant-loop decreases-loop
+same-length-4 : tie.Need-shape_of-lo invariant-loop decreases-loop
 same-length-4 c =
-    let s = c.before.before.before.before.before.before.before.before.before.before.before.before.before in
-    c.before.loop.invariant.1.held.low_long ∙ sym s.requires.held.low_long
+    c.loop-f.invariant.1.held.low_long ∙ sym c.requires.held.low_long
 
-same-length-5 : tie.Need-same-length-5 invariant-loop decreases-loop
+same-length-5 : tie.Need-shape_of-hi invariant-loop decreases-loop
 same-length-5 c =
-    let s = c.before.before.before.before.before.before.before.before.before.before.before.before.before in
-    c.before.loop.invariant.1.held.high_long ∙ sym s.requires.held.high_long
+    c.loop-f.invariant.1.held.high_long ∙ sym c.requires.held.high_long
 
-same-length-6 : tie.Need-same-length-6 invariant-loop decreases-loop
+same-length-6 : tie.Need-shape_of-done invariant-loop decreases-loop
 same-length-6 c =
-    let s = c.before.before.before.before.before.before.before.before.before.before.before.before.before in
-    c.before.loop.invariant.1.done_long ∙ sym s.requires.done_long
+    c.loop-f.invariant.1.done_long ∙ sym c.requires.done_long
 
-returns-2 : tie.Need-returns-2 invariant-loop decreases-loop
+returns-2 : tie.Need-returns invariant-loop decreases-loop
 returns-2 c = (
-  c.before.loop.invariant.1.held,
-  c.before.loop.invariant.1.done_long,
-  judge_yes (spread_end _ _ c.before.loop.invariant.1
+  c.loop-f.invariant.1.held,
+  c.loop-f.invariant.1.done_long,
+  judge_yes (spread_end _ _ c.loop-f.invariant.1
       (omega arith)),
 )
 
-pub spread-spec : {M : Type 1} → statement M
-spread-spec =
+pub spread_spec : {M : Type 1} → statement M
+spread_spec =
     tie.close
     (tie.spec
     invariant-loop

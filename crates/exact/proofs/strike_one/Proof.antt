@@ -8,65 +8,63 @@ use borrow.Author.Rules.{rules}
 use Rattle.exact.proofs.strike_one.Statement.{statement}
 use Rattle.exact.proofs.strike_one.Tie as tie
 
-slice-read-low : tie.Need-slice-read-low
+slice-read-low : tie.Need-bounds-lo-g
 slice-read-low c = search rules
 
-slice-read-high : tie.Need-slice-read-high
+slice-read-high : tie.Need-bounds-hi-g
 slice-read-high c = search rules
 
-does-pass-requires : tie.Need-does-pass-requires
+does-pass-requires : tie.Need-does_pass-a-requires
 does-pass-requires c κs =
-    let s = c.before.before.before.before.before in
-    let g = s.args.g in
-    let p = s.requires in
+    let g = c.args.g in
+    let p = c.requires in
     let h = p.1 in
     (p.0, p.2, p.3, p.4, p.5, p.6, h.low g p.3, omega (arith, h.ordered g p.3, h.high g p.3))
 
-returns : tie.Need-returns
+returns : tie.Need-returns-then-low-high
 returns c =
-    let a = c.before.before.before.before.before.before.before.args in
-    one_struck a.starts.now a.lo.now a.hi.now a.f a.d a.g c.before.does-pass.ensures c.if1.true
+    let a = c.args in
+    one_struck a.starts.now a.lo.now a.hi.now a.f a.d a.g c.does_pass-a.ensures c.if-low-high.true
 
-does-pass-requires-2 : tie.Need-does-pass-requires-2
+does-pass-requires-2 : tie.Need-does_pass-b-requires
 does-pass-requires-2 c κs =
-    let s = c.before.before.before.before.before.before.before in
-    let g = s.args.g in
-    let p = s.requires in
+    let g = c.args.g in
+    let p = c.requires in
     let h = p.1 in
     (p.0, p.2, p.3, p.4, p.5, p.6, omega (arith, h.low g p.3, h.ordered g p.3), h.high g p.3)
 
-returns-2 : tie.Need-returns-2
+returns-2 : tie.Need-returns-then-not-a-b
 returns-2 c =
-    let a = c.before.before.before.before.before.before.before.before.before.args in
-    none_struck a.starts.now a.lo.now a.hi.now a.f a.d a.g c.before.before.before.does-pass.ensures
-    c.before.does-pass2.ensures c.if2.true
+    let a = c.args in
+    none_struck a.starts.now a.lo.now a.hi.now a.f a.d a.g c.does_pass-a.ensures
+    c.does_pass-b.ensures c.if-not-a-b.true-raw
 
 pick-requires : tie.Need-pick-requires
 pick-requires c κs = search rules
 
-slice-write-lo : tie.Need-slice-write-lo
+slice-write-lo : tie.Need-bounds-lo-g-2
 slice-write-lo c = search rules
 
 pick-requires-2 : tie.Need-pick-requires-2
 pick-requires-2 c κs = search rules
 
-slice-write-hi : tie.Need-slice-write-hi
+slice-write-hi : tie.Need-bounds-hi-g-2
 slice-write-hi c = search rules
 
-same_length : tie.Need-same-length
+same_length : tie.Need-shape_of-lo
 same_length c = search rules
 
-same-length-2 : tie.Need-same-length-2
+same-length-2 : tie.Need-shape_of-hi
 same-length-2 c = search rules
 
-returns-3 : tie.Need-returns-3
+returns-3 : tie.Need-returns
 returns-3 c =
-    let a = c.before.before.before.before.before.before.before.before.before.before.before.args in
-    two_struck a.starts.now a.lo.now a.hi.now a.f a.d a.g c.before.before.before.before.before.does-pass.ensures
-    c.before.before.before.does-pass2.ensures (not-false _ c.before.before.if2.false) c.before.pick.ensures c.pick2.ensures
+    let a = c.args in
+    two_struck a.starts.now a.lo.now a.hi.now a.f a.d a.g c.does_pass-a.ensures
+    c.does_pass-b.ensures (not-false _ c.if-not-a-b.false-raw) c.pick.ensures c.pick-2.ensures
 
-pub strike-one-spec : {M : Type 1} → statement M
-strike-one-spec =
+pub strike_one_spec : {M : Type 1} → statement M
+strike_one_spec =
     tie.close
     (tie.spec
     slice-read-low

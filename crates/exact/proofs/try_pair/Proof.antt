@@ -7,47 +7,46 @@ use borrow.Author.Rules.{rules}
 use Rattle.exact.proofs.try_pair.Statement.{statement}
 use Rattle.exact.proofs.try_pair.Tie as tie
 
-slice-aggregate-set-options : tie.Need-slice-aggregate-set-options
+slice-aggregate-set-options : tie.Need-slice_bounds-set_options-end
 slice-aggregate-set-options c = search rules
 
-slice-aggregate-set-options-2 : tie.Need-slice-aggregate-set-options-2
+slice-aggregate-set-options-2 : tie.Need-slice_bounds-set_options-end-2
 slice-aggregate-set-options-2 c = search rules
 
-set-options-requires : tie.Need-set-options-requires
+set-options-requires : tie.Need-set_options-requires
 set-options-requires c κs = search rules
 
-returns : tie.Need-returns
+returns : tie.Need-returns-then-not-set_options
 returns c =
-    let a = c.before.before.before.before.before.before.before.before.before.before.before.before.args in (
-      c.before.before.before.before.before.before.before.before.before.before.before.before.requires.0.best_long,
+    let a = c.args in (
+      c.requires.0.best_long,
       better_skip a.starts.now a.table.now (starved_none a.starts.now a.table.now a.columns a.a
-          a.b (c.before.before.before.set-options.ensures.no (not-true _ c.if1.true))),
+          a.b (c.set_options.ensures.no (not-true _ c.if-not-set_options.true-raw))),
     )
 
-slice-aggregate-try-options : tie.Need-slice-aggregate-try-options
+slice-aggregate-try-options : tie.Need-slice_bounds-try_options-end
 slice-aggregate-try-options c = search rules
 
-slice-aggregate-try-options-2 : tie.Need-slice-aggregate-try-options-2
+slice-aggregate-try-options-2 : tie.Need-slice_bounds-try_options-end-2
 slice-aggregate-try-options-2 c = search rules
 
-try-options-requires : tie.Need-try-options-requires
+try-options-requires : tie.Need-try_options-requires
 try-options-requires c κs =
-    let s = c.before.before.before.before.before.before.before.before.before.before.before.before.before.before.before in
-    let o = c.before.before.before.before.before.before.set-options.ensures.yes (not-false _ c.before.before.before.if1.false) in
-    (s.pre.0.sited, o.held, s.pre.0.best_long, offers_listed o s.pre.0.listed)
+    let o = c.set_options.ensures.yes (not-false _ c.if-not-set_options.false-raw) in
+    (c.requires.0.sited, o.held, c.requires.0.best_long, offers_listed o c.requires.0.listed)
 
-same_length : tie.Need-same-length
+same_length : tie.Need-shape_of-best
 same_length c = search rules
 
-returns-2 : tie.Need-returns-2
+returns-2 : tie.Need-returns
 returns-2 c =
-    let a = c.before.before.before.before.before.before.before.before.before.before.before.before.before.before.before.before.before.before.before.before.args in
-    let o = c.before.before.before.before.before.before.before.before.before.before.before.set-options.ensures.yes (not-false _ c.before.before.before.before.before.before.before.before.if1.false) in
-    let e = c.before.before.before.before.try-options.ensures in
+    let a = c.args in
+    let o = c.set_options.ensures.yes (not-false _ c.if-not-set_options.false-raw) in
+    let e = c.try_options.ensures in
     (e.2, better_takes a.starts.now a.table.now a.columns a.a a.b _ _ o e.3)
 
-pub try-pair-spec : {M : Type 1} → statement M
-try-pair-spec =
+pub try_pair_spec : {M : Type 1} → statement M
+try_pair_spec =
     tie.close
     (tie.spec
     slice-aggregate-set-options

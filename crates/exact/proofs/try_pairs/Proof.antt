@@ -9,63 +9,62 @@ use native.Mathlib.Omega.{arith}
 use Rattle.exact.proofs.try_pairs.Statement.{statement}
 use Rattle.exact.proofs.try_pairs.Tie as tie
 
-abbrev invariant-loop : tie.invariant-loop
+abbrev invariant-loop : tie.invariant-loop-a
 invariant-loop clashes starts table lists ends rest columns had best₀ have₀ a₀ a-end best have a =
     (a-end ≡ length starts + 1) × (length best ≡ 128) × Bettered starts table
     (SomeBelow (RowCovered columns starts) a) have₀ best₀ have best
 
-abbrev decreases-loop : tie.decreases-loop
+abbrev decreases-loop : tie.decreases-loop-a
 decreases-loop clashes starts table lists ends rest columns had best₀ have₀ a₀ a-end best have a = a-end - a
 
-add-a-end : tie.Need-overflow-add-a-end invariant-loop decreases-loop
+add-a-end : tie.Need-overflow_add-a-end invariant-loop decreases-loop
 add-a-end c =
-    omega (arith, c.before.before.before.before.before.before.requires.sited.few)
+    omega (arith, c.requires.sited.few)
 
-loop-holds : tie.Need-loop-init invariant-loop decreases-loop
+loop-holds : tie.Need-loop-a-init invariant-loop decreases-loop
 loop-holds c =
-    let a = c.before.before.before.before.before.before.args in (
+    let a = c.args in (
       refl,
-      c.before.before.before.before.before.before.requires.best_long,
+      c.requires.best_long,
       better_skip a.starts.now a.table.now (λ q f. none_below _ q),
     )
 
-try-row-requires : tie.Need-try-row-requires invariant-loop decreases-loop
+try-row-requires : tie.Need-try_row-have-requires invariant-loop decreases-loop
 try-row-requires c κs =
-    let s = c.before.before.before.before.before.before.before.before.before in
     record {
-      sited = s.requires.sited;
-      table_long = s.requires.table_long;
-      listed = s.requires.listed;
-      best_long = c.before.before.loop.invariant.1;
+      sited = c.requires.sited;
+      table_long = c.requires.table_long;
+      listed = c.requires.listed;
+      best_long = c.loop-a.invariant.1;
     }
 
-add_a : tie.Need-overflow-add-a invariant-loop decreases-loop
+add_a : tie.Need-overflow_step-a invariant-loop decreases-loop
 add_a c =
     omega arith
 
-loop-less : tie.Need-loop-smaller invariant-loop decreases-loop
+loop-less : tie.Need-loop-a-smaller invariant-loop decreases-loop
 loop-less c =
     omega arith
 
-loop-again : tie.Need-loop-preserved invariant-loop decreases-loop
+loop-again : tie.Need-loop-a-preserved invariant-loop decreases-loop
 loop-again c =
-    let a = c.before.before.before.before.before.before.before.before.before.before.before.before.args in
-    let v = c.before.before.before.before.before.loop.invariant in
-    let e = c.before.before.try-row.ensures in
+    let a = c.args in
+    let v = c.loop-a.invariant in
+    let e = c.try_row-have.ensures in
     (v.0, e.0, better_more a.starts.now a.table.now (next_below _ _) v.2 e.1)
 
-same_length : tie.Need-same-length invariant-loop decreases-loop
+same_length : tie.Need-shape_of-best invariant-loop decreases-loop
 same_length c =
-    c.before.loop.invariant.1 ∙ sym c.before.before.before.before.before.before.before.before.requires.best_long
+    c.loop-a.invariant.1 ∙ sym c.requires.best_long
 
 returns : tie.Need-returns invariant-loop decreases-loop
 returns c =
-    let a = c.before.before.before.before.before.before.before.before.args in
-    let v = c.before.loop.invariant in
+    let a = c.args in
+    let v = c.loop-a.invariant in
     (v.1, better_weaken a.starts.now a.table.now (all_below _ _ _ (omega arith)) v.2)
 
-pub try-pairs-spec : {M : Type 1} → statement M
-try-pairs-spec =
+pub try_pairs_spec : {M : Type 1} → statement M
+try_pairs_spec =
     tie.close
     (tie.spec
     invariant-loop

@@ -12,75 +12,70 @@ use Rattle.peeling.proofs.Sides.{Along, outward, outward_by, along_start, along_
 use Rattle.peeling.proofs.find_outward.Statement.{statement}
 use Rattle.peeling.proofs.find_outward.Tie as tie
 
-abbrev invariant-loop : tie.invariant-loop
+abbrev invariant-loop : tie.invariant-loop-k
 invariant-loop n m grid left d least k₀ k-end k = Along (is_open n m grid) left d k
 
-abbrev decreases-loop : tie.decreases-loop
+abbrev decreases-loop : tie.decreases-loop-k
 decreases-loop n m grid left d least k₀ k-end k = length left - k
 
 -- the call
-abbrev began : tie.After-is-outward invariant-loop decreases-loop → tie.Start invariant-loop decreases-loop
+abbrev began : tie.After-is_outward invariant-loop decreases-loop → tie.Start invariant-loop decreases-loop
 began c = c.before.before.before.before.before.before.before
 
-abbrev opens : tie.After-is-outward invariant-loop decreases-loop → ℕ → ℕ → Bool
+abbrev opens : tie.After-is_outward invariant-loop decreases-loop → ℕ → ℕ → Bool
 opens c = let a = (began c).args in is_open a.n a.m a.grid.now
 
 -- the answer about the k-th fault is whether it qualifies
-abbrev asked : tie.After-is-outward invariant-loop decreases-loop → Bool
-asked c = outward (opens c) (began c).args.left.now (began c).args.d c.before.before.before.loop.k
+abbrev asked : tie.After-is_outward invariant-loop decreases-loop → Bool
+asked c = outward (opens c) (began c).args.left.now (began c).args.d c.loop-k.k
 
-answered : (c : tie.After-is-outward invariant-loop decreases-loop) → c.is-outward.result ≡ asked c
+answered : (c : tie.After-is_outward invariant-loop decreases-loop) → c.is_outward.result ≡ asked c
 answered c =
-    let l = c.before.before.before in
     let s = began c in
-    let w = way s.args.d s.pre.1 s.pre.2 in
-    c.is-outward.ensures
-    ∙ outward_by (opens c) _ _ _ l.loop.k w (start_below s.pre.0) l.before.find-least.ensures (omega arith)
+    let w = way s.args.d s.requires.1 s.requires.2 in
+    c.is_outward.ensures
+    ∙ outward_by (opens c) _ _ _ c.loop-k.k w (start_below s.requires.0) c.find_least-least.ensures (omega arith)
 
-find-least-requires : tie.Need-find-least-requires invariant-loop decreases-loop
+find-least-requires : tie.Need-find_least-least-requires invariant-loop decreases-loop
 find-least-requires c κs =
-    let s = c.before.before.requires in
+    let s = c.requires in
     (start_below s.0, s.1, s.2)
 
-loop-holds : tie.Need-loop-init invariant-loop decreases-loop
+loop-holds : tie.Need-loop-k-init invariant-loop decreases-loop
 loop-holds c = along_start _ _ _
 
-mul-is-outward : tie.Need-overflow-mul-is-outward invariant-loop decreases-loop
+mul-is-outward : tie.Need-offset_bounds-left-k invariant-loop decreases-loop
 mul-is-outward c = omega arith
 
-shared-slice-read-is-outward : tie.Need-shared-slice-read-is-outward invariant-loop decreases-loop
+shared-slice-read-is-outward : tie.Need-bounds-left-k invariant-loop decreases-loop
 shared-slice-read-is-outward c = omega arith
 
-cast-is-outward : tie.Need-overflow-cast-is-outward invariant-loop decreases-loop
-cast-is-outward c = omega (arith, c.shared-slice-known3.given c.before.before.loop.k)
+cast-is-outward : tie.Need-overflow_cast-left invariant-loop decreases-loop
+cast-is-outward c = omega (arith, c.shared_slice_known-in-loop-k-1.given c.loop-k.k)
 
-is-outward-requires : tie.Need-is-outward-requires invariant-loop decreases-loop
+is-outward-requires : tie.Need-is_outward-requires invariant-loop decreases-loop
 is-outward-requires c κs =
-    let l = c.before.before in
-    let s = l.before.before.before.before in
-    (start_at s.requires.0 l.loop.k s.args.d (omega arith) s.requires.1 s.requires.2, s.requires.0.marks)
+    (start_at c.requires.0 c.loop-k.k c.args.d (omega arith) c.requires.1 c.requires.2, c.requires.0.marks)
 
-returns : tie.Need-returns invariant-loop decreases-loop
+returns : tie.Need-returns-then-is_outward invariant-loop decreases-loop
 returns c =
-    let q = c.before in
-    along_here q.before.before.before.loop.invariant (omega arith) (sym (answered q) ∙ c.if1.true)
+    along_here c.loop-k.invariant (omega arith) (sym (answered c.before) ∙ c.if-is_outward.true)
 
-add-k : tie.Need-overflow-add-k invariant-loop decreases-loop
+add-k : tie.Need-overflow_step-k invariant-loop decreases-loop
 add-k c = omega arith
 
-loop-less : tie.Need-loop-smaller invariant-loop decreases-loop
+loop-less : tie.Need-loop-k-smaller invariant-loop decreases-loop
 loop-less c = omega arith
 
-loop-again : tie.Need-loop-preserved invariant-loop decreases-loop
+loop-again : tie.Need-loop-k-preserved invariant-loop decreases-loop
 loop-again c =
-    let q = c.before in
-    along_pass q.before.before.before.loop.invariant (omega arith) (sym (answered q) ∙ c.if1.false)
+    along_pass c.loop-k.invariant (omega arith) (sym (answered c.before) ∙ c.if-is_outward.false)
 
-returns-2 : tie.Need-returns-2 invariant-loop decreases-loop
-returns-2 c = along_none c.before.loop.invariant (omega arith)
+returns-2 : tie.Need-returns invariant-loop decreases-loop
+returns-2 c = along_none c.loop-k.invariant (omega arith)
 
-pub find-outward-spec : {M : Type 1} → statement M
-find-outward-spec =
+pub find_outward_spec : {M : Type 1} → statement M
+find_outward_spec =
     tie.close
     (tie.spec
     invariant-loop

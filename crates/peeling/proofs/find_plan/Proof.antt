@@ -13,151 +13,142 @@ use Rattle.peeling.proofs.find_plan.Statement.{statement}
 use Rattle.peeling.proofs.find_plan.Tie as tie
 
 -- the listed faults, and the call
-abbrev listed : tie.After-peel → tie.After-list-faults
+abbrev listed : tie.After-peel-settled → tie.After-list_faults-count
 listed p = p.before.before.before.before.before
 
-abbrev began : tie.After-peel → tie.Start
+abbrev began : tie.After-peel-settled → tie.Start
 began p = (listed p).before.before.before.before
 
 -- as many as were listed
-as_many : (p : tie.After-peel) → length p.peel.new.1.1.1.0 ≡ (listed p).list-faults.result
-as_many p = p.peel.auto.1.1.1.0 ∙ sym (listed p).list-faults.ensures.size
+as_many : (p : tie.After-peel-settled) → length p.peel-settled.new.left ≡ (listed p).list_faults-count.result
+as_many p = p.peel-settled.auto.left ∙ sym (listed p).list_faults-count.ensures.size
 
 -- and so few are settled
-few : (p : tie.After-peel) → p.peel.result ≤ 1024
-few p = omega (arith, p.peel.ensures.within, as_many p, (listed p).list-faults.ensures.short)
+few : (p : tie.After-peel-settled) → p.peel-settled.result ≤ 1024
+few p = omega (arith, p.peel-settled.ensures.within, as_many p, (listed p).list_faults-count.ensures.short)
 
 -- the working buffers have a place for each of them
-held_fits : (p : tie.After-peel) → p.peel.result ≤ length p.peel.new.1.1.1.1.0
-held_fits p = omega (arith, few p, p.peel.auto.1.1.1.1.0)
+held_fits : (p : tie.After-peel-settled) → p.peel-settled.result ≤ length p.peel-settled.new.held
+held_fits p = omega (arith, few p, p.peel-settled.auto.held)
 
-ways-fit : (p : tie.After-peel) → p.peel.result ≤ length p.peel.new.1.1.1.1.1.0
-ways-fit p = omega (arith, few p, p.peel.auto.1.1.1.1.1.0)
+ways-fit : (p : tie.After-peel-settled) → p.peel-settled.result ≤ length p.peel-settled.new.ways
+ways-fit p = omega (arith, few p, p.peel-settled.auto.ways)
 
 -- the settlings, from later places
-abbrev settled_at : tie.After-search-within → tie.After-peel
+abbrev settled_at : tie.After-search_within-found → tie.After-peel-settled
 settled_at q = q.before.before.before.before.before.before
 
-abbrev found_at : tie.After-write-found → tie.After-peel
+abbrev found_at : tie.After-write_found → tie.After-peel-settled
 found_at w = settled_at w.before.before.before.before.before
 
 -- how many are left
-abbrev rest : tie.After-peel → ℕ
-rest p = (listed p).list-faults.result - p.peel.result
+abbrev rest : tie.After-peel-settled → ℕ
+rest p = (listed p).list_faults-count.result - p.peel-settled.result
 
-chosen-fits : (q : tie.After-search-within) → rest (settled_at q) ≤ length q.search-within.new.1.1.1.1.0
-chosen-fits q = omega (arith, (listed (settled_at q)).list-faults.ensures.short, q.search-within.auto.1.1.1.1.0)
+chosen-fits : (q : tie.After-search_within-found) → rest (settled_at q) ≤ length q.search_within-found.new.chosen
+chosen-fits q = omega (arith, (listed (settled_at q)).list_faults-count.ensures.short, q.search_within-found.auto.chosen)
 
-slice-aggregate-list-faults : tie.Need-slice-aggregate-list-faults
+slice-aggregate-list-faults : tie.Need-slice_bounds-list_faults-end
 slice-aggregate-list-faults c = search rules
 
-list-faults-requires : tie.Need-list-faults-requires
+list-faults-requires : tie.Need-list_faults-count-requires
 list-faults-requires c κs = search rules
 
-array-borrow-prefix-left : tie.Need-array-borrow-prefix-left
+array-borrow-prefix-left : tie.Need-slice_bounds-left-end
 array-borrow-prefix-left c = search rules
 
-slice-aggregate-peel : tie.Need-slice-aggregate-peel
+slice-aggregate-peel : tie.Need-slice_bounds-peel-end
 slice-aggregate-peel c = search rules
 
-slice-aggregate-peel-2 : tie.Need-slice-aggregate-peel-2
+slice-aggregate-peel-2 : tie.Need-slice_bounds-peel-end-2
 slice-aggregate-peel-2 c = search rules
 
-slice-aggregate-peel-3 : tie.Need-slice-aggregate-peel-3
+slice-aggregate-peel-3 : tie.Need-slice_bounds-peel-end-3
 slice-aggregate-peel-3 c = search rules
 
-peel-requires : tie.Need-peel-requires
+peel-requires : tie.Need-peel-settled-requires
 peel-requires c κs = search rules
 
-sub-rest : tie.Need-overflow-sub-rest
+sub-rest : tie.Need-overflow_sub-rest
 sub-rest c = search rules
 
-array-share-prefix-left : tie.Need-array-share-prefix-left
-array-share-prefix-left c = let p = c.before.before.before in starts_fit p.peel.ensures _ (as_many p) _
+array-share-prefix-left : tie.Need-slice_bounds-left-end-2
+array-share-prefix-left c = starts_fit c.peel-settled.ensures _ (as_many c.before.before.before) _
 
-slice-aggregate-search-within : tie.Need-slice-aggregate-search-within
+slice-aggregate-search-within : tie.Need-slice_bounds-search_within-end
 slice-aggregate-search-within c =
-    let p = c.before.before.before.before in
-    sym (starts_size p.peel.ensures _ (as_many p) _)
+    sym (starts_size c.peel-settled.ensures _ (as_many c.before.before.before.before) _)
 
-slice-aggregate-search-within-2 : tie.Need-slice-aggregate-search-within-2
+slice-aggregate-search-within-2 : tie.Need-slice_bounds-search_within-end-2
 slice-aggregate-search-within-2 c = search rules
 
-search-within-requires : tie.Need-search-within-requires
+search-within-requires : tie.Need-search_within-found-requires
 search-within-requires c κs =
-    let p = c.before.before.before.before.before in
-    let e = p.peel.ensures in
-    let s = (began p).requires in
-    let l = (listed p).list-faults.ensures.short in (
-      starts_searchable e _ (as_many p) _ s.0 s.1 s.2,
-      starts_short e _ (as_many p) _ l,
-      starts_short e _ (as_many p) _ l,
+    let e = c.peel-settled.ensures in
+    let s = (began c.before.before.before.before.before).requires in
+    let l = (listed c.before.before.before.before.before).list_faults-count.ensures.short in (
+      starts_searchable e _ (as_many c.before.before.before.before.before) _ s.0 s.1 s.2,
+      starts_short e _ (as_many c.before.before.before.before.before) _ l,
+      starts_short e _ (as_many c.before.before.before.before.before) _ l,
     )
 
-array-share-prefix-left-2 : tie.Need-array-share-prefix-left-2
-array-share-prefix-left-2 c = let p = settled_at c.before in starts_fit p.peel.ensures _ (as_many p) _
+array-share-prefix-left-2 : tie.Need-slice_bounds-left-end-3
+array-share-prefix-left-2 c = let p = settled_at c.before in starts_fit p.peel-settled.ensures _ (as_many p) _
 
-slice-aggregate-write-found : tie.Need-slice-aggregate-write-found
+slice-aggregate-write-found : tie.Need-slice_bounds-write_found-end
 slice-aggregate-write-found c =
     let p = settled_at c.before.before in
-    sym (starts_size p.peel.ensures _ (as_many p) _)
+    sym (starts_size p.peel-settled.ensures _ (as_many p) _)
 
-array-share-prefix-chosen : tie.Need-array-share-prefix-chosen
+array-share-prefix-chosen : tie.Need-slice_bounds-chosen-end
 array-share-prefix-chosen c = search rules
 
-slice-aggregate-write-found-2 : tie.Need-slice-aggregate-write-found-2
+slice-aggregate-write-found-2 : tie.Need-slice_bounds-write_found-end-2
 slice-aggregate-write-found-2 c = sym (length-take-le _ _ (chosen-fits c.before.before.before))
 
-write-found-requires : tie.Need-write-found-requires
+write-found-requires : tie.Need-write_found-requires
 write-found-requires c κs =
-    let q = c.before.before.before.before in
-    let p = settled_at q in
-    let e = p.peel.ensures in
-    let s = (began p).pre in (
+    let p = settled_at c.before.before.before.before in
+    let e = p.peel-settled.ensures in
+    let s = (began p).requires in (
       s.3,
-      starts_room e _ (as_many p) _ _ (chosen-fits q),
+      starts_room e _ (as_many p) _ _ (chosen-fits c.before.before.before.before),
       start_below (starts_searchable e _ (as_many p) _ s.0 s.1 s.2),
     )
 
-array-share-prefix-held : tie.Need-array-share-prefix-held
+array-share-prefix-held : tie.Need-slice_bounds-held-end
 array-share-prefix-held c = search rules
 
-slice-aggregate-complete : tie.Need-slice-aggregate-complete
+slice-aggregate-complete : tie.Need-slice_bounds-complete-end
 slice-aggregate-complete c =
-    let w = c.before.before.before in
-    sym (length-take-le _ _ (held_fits (found_at w)))
+    sym (length-take-le _ _ (held_fits (found_at c.before.before.before)))
 
-array-share-prefix-ways : tie.Need-array-share-prefix-ways
+array-share-prefix-ways : tie.Need-slice_bounds-ways-end
 array-share-prefix-ways c = search rules
 
-slice-aggregate-complete-2 : tie.Need-slice-aggregate-complete-2
+slice-aggregate-complete-2 : tie.Need-slice_bounds-complete-end-2
 slice-aggregate-complete-2 c =
-    let w = c.before.before.before.before in
-    sym (length-take-le _ _ (ways-fit (found_at w)))
+    sym (length-take-le _ _ (ways-fit (found_at c.before.before.before.before)))
 
 complete-requires : tie.Need-complete-requires
 complete-requires c κs =
-    let w = c.before.before.before.before.before in
-    let p = found_at w in
-    held_writable p.peel.ensures (held_fits p) _ (ways-fit p) (w.write-found.auto.1.1.1.0 ∙ (began p).pre.3)
+    let p = found_at c.before.before.before.before.before in
+    held_writable p.peel-settled.ensures (held_fits p) _ (ways-fit p) (c.write_found.auto.directions ∙ (began p).requires.3)
 
-same_length : tie.Need-same-length
+same_length : tie.Need-shape_of-directions
 same_length c = search rules
 
 returns : tie.Need-returns
 returns c =
-    let d = c.before.before in
-    let w = d.before.before.before.before.before.before in
-    let q = w.before.before.before.before.before in
-    let p = settled_at q in
-    let e = p.peel.ensures in
-    let s = (began p).pre in
+    let p = settled_at c.before.before.before.before.before.before.before.before.before.before.before.before.before in
+    let e = p.peel-settled.ensures in
+    let s = (began p).requires in
     quick_end _ _ _ _ _ _ _ _ _ _ _ s.0 s.1 (starts_are e _ (as_many p) _) (held_are e (held_fits p))
-    (sym (starts_size e _ (as_many p) _)) q.search-within.ensures.0 q.search-within.ensures.1
-    w.write-found.ensures d.complete.ensures
+    (sym (starts_size e _ (as_many p) _)) c.search_within-found.ensures.0 c.search_within-found.ensures.1
+    c.write_found.ensures c.complete.ensures
 
-pub find-plan-spec : {M : Type 1} → statement M
-find-plan-spec =
+pub find_plan_spec : {M : Type 1} → statement M
+find_plan_spec =
     tie.close
     (tie.spec
     slice-aggregate-list-faults

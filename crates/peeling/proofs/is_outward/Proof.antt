@@ -11,18 +11,18 @@ use Rattle.peeling.proofs.is_outward.Tie as tie
 
 depth-requires : tie.Need-depth-requires
 depth-requires c κs =
-    let s = c.before.requires.0 in
+    let s = c.requires.0 in
     let i = start_inner s in
     (omega (arith, s.rows), s.low, s.high)
 
-returns : tie.Need-returns
-returns c = by_depth _ _ c.before.depth.ensures (ne_eqb _ _ c.if1.true)
+returns : tie.Need-returns-then-depth-least
+returns c = by_depth _ _ c.depth.ensures (ne_eqb _ _ c.if-depth-least.true)
 
-is-open-requires : tie.Need-is-open-requires
+is-open-requires : tie.Need-is_open-requires
 is-open-requires c κs = search rules
 
-returns-2 : tie.Need-returns-2
-returns-2 c = c.is_open.ensures ∙ by_depth _ _ c.before.before.depth.ensures (eq-eqb _ _ c.before.if1.false)
+returns-2 : tie.Need-returns
+returns-2 c = c.is_open.ensures ∙ by_depth _ _ c.depth.ensures (eq-eqb _ _ c.if-depth-least.false)
 
-pub is-outward-spec : {M : Type 1} → statement M
-is-outward-spec = tie.close (tie.spec depth-requires returns is-open-requires returns-2)
+pub is_outward_spec : {M : Type 1} → statement M
+is_outward_spec = tie.close (tie.spec depth-requires returns is-open-requires returns-2)

@@ -12,49 +12,49 @@ use Rattle.sessions.proofs.OnPath.{none_there}
 use Rattle.sessions.proofs.check_kept.Statement.{statement}
 use Rattle.sessions.proofs.check_kept.Tie as tie
 
-abbrev invariant-loop : tie.invariant-loop
+abbrev invariant-loop : tie.invariant-loop-q
 invariant-loop n m directions p q₀ q =
     Seeking (element_test (path_test n m p) directions) (from_position (path_test n m p) directions) (length directions) q
     (kept_paths_test n m directions p)
 
-abbrev decreases-loop : tie.decreases-loop
+abbrev decreases-loop : tie.decreases-loop-q
 decreases-loop n m directions p q₀ q = 1024 - q
 
-loop-holds : tie.Need-loop-init invariant-loop decreases-loop
+loop-holds : tie.Need-loop-q-init invariant-loop decreases-loop
 loop-holds c = seek_start (buffer_scan _ _) 0 (omega arith)
 
-shared-slice-read-e : tie.Need-shared-slice-read-e invariant-loop decreases-loop
+shared-slice-read-e : tie.Need-bounds-directions-q invariant-loop decreases-loop
 shared-slice-read-e c = omega arith
 
-is-on-requires : tie.Need-is-on-requires invariant-loop decreases-loop
-is-on-requires c κs = c.before.before.before.before.before.requires.each _ (omega arith) c.if1.true
+is-on-requires : tie.Need-is_on-requires invariant-loop decreases-loop
+is-on-requires c κs = c.requires.each _ (omega arith) c.if-e-ne0.true
 
-returns : tie.Need-returns invariant-loop decreases-loop
+returns : tie.Need-returns-then-is_on invariant-loop decreases-loop
 returns c =
-    seek_stop_if c.before.before.before.before.before.loop.invariant 23 _ 0 (omega arith) refl c.before.is-on.ensures
-    c.if2.true
+    seek_stop_if c.loop-q.invariant 23 _ 0 (omega arith) refl c.is_on.ensures
+    c.if-is_on.true
 
-add-q : tie.Need-overflow-add-q invariant-loop decreases-loop
+add-q : tie.Need-overflow_step-q invariant-loop decreases-loop
 add-q c = omega arith
 
-loop-less : tie.Need-loop-smaller invariant-loop decreases-loop
+loop-less : tie.Need-loop-q-smaller invariant-loop decreases-loop
 loop-less c = omega arith
 
-loop-again : tie.Need-loop-preserved invariant-loop decreases-loop
+loop-again : tie.Need-loop-q-preserved invariant-loop decreases-loop
 loop-again c =
-    let a = c.before.before.before.before.before.args in
+    let a = c.args in
     ⊎_elim
     (λ w.
-    seek_pass_if c.before.before.before.loop.invariant 23 _ 0 (omega arith) refl w.1.ensures w.2.left)
+    seek_pass_if c.loop-q.invariant 23 _ 0 (omega arith) refl w.is_on.ensures w.if-is_on.false)
     (λ w.
-    seek_pass c.before.before.before.loop.invariant (omega arith) refl
-    (ap (path_test a.n a.m a.p _) w.left ∙ none_there a.n a.m a.p _)) c.if1.branch
+    seek_pass c.loop-q.invariant (omega arith) refl
+    (ap (path_test a.n a.m a.p _) w.if-e-ne0.false ∙ none_there a.n a.m a.p _)) c.if-e-ne0.branch-raw
 
-returns-2 : tie.Need-returns-2 invariant-loop decreases-loop
-returns-2 c = seek_none c.before.loop.invariant (omega arith)
+returns-2 : tie.Need-returns invariant-loop decreases-loop
+returns-2 c = seek_none c.loop-q.invariant (omega arith)
 
-pub check-kept-spec : {M : Type 1} → statement M
-check-kept-spec =
+pub check_kept_spec : {M : Type 1} → statement M
+check_kept_spec =
     tie.close
     (tie.spec
     invariant-loop

@@ -6,14 +6,14 @@ use Rattle.array.proofs.Bools.{cond_taken, cond_left}
 use Rattle.sessions.proofs.check_mark.Statement.{statement}
 use Rattle.sessions.proofs.check_mark.Tie as tie
 
-is-faulty-requires : tie.Need-is-faulty-requires
+is-faulty-requires : tie.Need-is_faulty-requires
 is-faulty-requires c κs = search rules
 
-returns : tie.Need-returns
-returns c = sym (cond_taken _ _ c.before.is-faulty.ensures c.if1.true)
+returns : tie.Need-returns-then-is_faulty
+returns c = sym (cond_taken _ _ c.is_faulty.ensures c.if-is_faulty.true)
 
-returns-2 : tie.Need-returns-2
-returns-2 c = sym (cond_left _ _ c.before.is-faulty.ensures c.if1.false)
+returns-2 : tie.Need-returns
+returns-2 c = sym (cond_left _ _ c.is_faulty.ensures c.if-is_faulty.false)
 
-pub check-mark-spec : {M : Type 1} → statement M
-check-mark-spec = tie.close (tie.spec is-faulty-requires returns returns-2)
+pub check_mark_spec : {M : Type 1} → statement M
+check_mark_spec = tie.close (tie.spec is-faulty-requires returns returns-2)

@@ -17,7 +17,7 @@ use Rattle.sessions.proofs.judge.Statement.{statement}
 use Rattle.sessions.proofs.judge.Tie as tie
 
 -- the start of the call, and its session
-abbrev start : tie.After-check-plan → tie.Start
+abbrev start : tie.After-check_plan → tie.Start
 start c = c.before.before.before.before.before.before.before
 
 abbrev of-call : tie.Start → Session
@@ -27,86 +27,83 @@ of-call s =
     a.west.now
 
 -- what the plan check answers
-checked : (c : tie.After-check-plan) → c.check_plan.result ≡ session_test (of-call (start c))
+checked : (c : tie.After-check_plan) → c.check_plan.result ≡ session_test (of-call (start c))
 checked c = verdict_kept _ _ c.check_plan.ensures
 
 -- 1 to 7 are passed, and 15
-passes : (c : tie.After-enum-told) → session_test (of-call (start c.before.before)) ≡ Accepted
-passes c = sym (checked c.before.before) ∙ c.enum_told.given.1
+passes : (c : tie.In_default) → session_test (of-call (start c.before)) ≡ Accepted
+passes c = sym (checked c.before) ∙ c.in_default.is
 
-stood : (c : tie.Else1) → let s = start c.before.before.before.before in Standing (of-call s) s.args.p
+stood : (c : tie.Else-not-is_processor) → let s = start c.before.before.before in Standing (of-call s) s.args.p
 stood c =
     record {
       passes = passes c.before.before;
-      stands = sym c.before.is-processor.ensures ∙ not-false _ c.if1.false;
-      wide = (start c.before.before.before.before).requires;
+      stands = sym c.is_processor.ensures ∙ not-false _ c.if-not-is_processor.false-raw;
+      wide = (start c.before.before.before).requires;
     }
 
-check-plan-requires : tie.Need-check-plan-requires
+check-plan-requires : tie.Need-check_plan-requires
 check-plan-requires c κs = search rules
 
-enum-known-r : tie.Need-enum-known-r
+enum-known-r : tie.Need-enum_known-r
 enum-known-r c = search rules
 
-returns : tie.Need-returns
+returns : tie.Need-returns-in-Refused
 unfolding report_test
 returns c =
-    let k = c.before.before.before in
-    let s = start k in
+    let s = start c.before in
     let a = s.args in
     judged_by (path_of (of-call s) a.failing a.p)
-    (sym c.before.r.given.1 ∙ verdict_stops (checked k) _ c.before.r.given.1)
+    (sym c.in-Refused.is ∙ verdict_stops (checked c.before) _ c.in-Refused.is)
 
-enum_told : tie.Need-enum-told
+enum_told : tie.Need-enum_told-1
 enum_told c = search rules
 
-is-processor-requires : tie.Need-is-processor-requires
+is-processor-requires : tie.Need-is_processor-requires
 is-processor-requires c κs =
-    let a = (start c.before.before).args in
+    let a = (start c.before).args in
     let z = (map_formed a.n a.m a.grid.now a.directions.now (passes c)).sizes in
     (z.rows_high, z.columns_high)
 
 refused-requires : tie.Need-refused-requires
 refused-requires c κs = search rules
 
-returns-2 : tie.Need-returns-2
+returns-2 : tie.Need-returns-then-not-is_processor
 unfolding report_test
 returns-2 c =
-    let k = c.before.before in
-    let s = start k.before.before.before in
+    let s = start c.before.before.before.before in
     let a = s.args in
     c.refused.ensures
     ∙ judged_by (path_of (of-call s) a.failing a.p)
-    (verdict_passes (sym (passes k.before)) _ refl
-    (test_refuses (ap not k.is-processor.ensures) _ c.before.if1.true))
+    (verdict_passes (sym (passes c.before.before.before)) _ refl
+    (test_refuses (ap not c.is_processor.ensures) _ c.if-not-is_processor.true-raw))
 
-judge-failing-requires : tie.Need-judge-failing-requires
+judge-failing-requires : tie.Need-judge_failing-requires
 judge-failing-requires c κs = stood c.before
 
-returns-3 : tie.Need-returns-3
-returns-3 c = c.judge-failing.ensures ∙ report_failing (stood c.before.before) _ c.before.if2.true
+returns-3 : tie.Need-returns-then-failing
+returns-3 c = c.judge_failing.ensures ∙ report_failing (stood c.before.before) _ c.if-failing.true
 
-shared-slice-read-judge-recovering : tie.Need-shared-slice-read-judge-recovering
+shared-slice-read-judge-recovering : tie.Need-bounds-grid-p
 shared-slice-read-judge-recovering c =
     let o = stood c.before.before in
     omega (arith, below o, (of_map o).length_is)
 
-shared-slice-read-judge-recovering-2 : tie.Need-shared-slice-read-judge-recovering-2
+shared-slice-read-judge-recovering-2 : tie.Need-bounds-directions-p
 shared-slice-read-judge-recovering-2 c =
     let o = stood c.before.before.before in
-    let a = (start c.before.before.before.before.before.before.before).args in
+    let a = (start c.before.before.before.before.before.before).args in
     omega (arith, below o, (started a.n a.m a.grid.now a.directions.now o.passes).long)
 
-judge-recovering-requires : tie.Need-judge-recovering-requires
+judge-recovering-requires : tie.Need-judge_recovering-requires
 judge-recovering-requires c κs = search rules
 
-returns-4 : tie.Need-returns-4
+returns-4 : tie.Need-returns
 returns-4 c =
-    let l = c.before.before.before in
-    c.judge-recovering.ensures ∙ report_recovering (stood l.before) _ l.if2.false
+    c.judge_recovering.ensures ∙ report_recovering (stood c.before.before.before.before) _ c.if-failing.false
 
-pub judge-spec : {M : Type 1} → statement M
-judge-spec =
+pub judge_spec : {M : Type 1} → statement M
+judge_spec =
     tie.close
     (tie.spec
     check-plan-requires

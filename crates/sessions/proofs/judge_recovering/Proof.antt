@@ -12,35 +12,33 @@ use Rattle.sessions.proofs.judge_recovering.Tie as tie
 refused-requires : tie.Need-refused-requires
 refused-requires c κs = search rules
 
-returns : tie.Need-returns
+returns : tie.Need-returns-then-mark-eq0
 returns c =
-    let a = c.before.before.args in
-    c.refused.ensures ∙ judged_by a.direction (test_refuses (sym (eq-eqb a.mark 0 c.before.if1.true)) _ refl)
+    let a = c.args in
+    c.refused.ensures ∙ judged_by a.direction (test_refuses (sym (eq-eqb a.mark 0 c.if-mark-eq0.true)) _ refl)
 
-is-dead-requires : tie.Need-is-dead-requires
+is-dead-requires : tie.Need-is_dead-requires
 is-dead-requires c κs = search rules
 
-refused-requires-2 : tie.Need-refused-requires-2
+refused-requires-2 : tie.Need-refused-requires-then-is_dead
 refused-requires-2 c κs = search rules
 
-returns-2 : tie.Need-returns-2
+returns-2 : tie.Need-returns-then-is_dead
 returns-2 c =
-    let k = c.before.before in
-    let a = k.before.before.args in
-    c.refused2.ensures
+    let a = c.args in
+    c.refused-then-is_dead.ensures
     ∙ judged_by a.direction
-    (test_passes (sym (ne_eqb a.mark 0 k.before.if1.false)) 22 a.p 0 refl
-    (sym (cond_taken _ _ k.is-dead.ensures c.before.if2.true)))
+    (test_passes (sym (ne_eqb a.mark 0 c.if-mark-eq0.false)) 22 a.p 0 refl
+    (sym (cond_taken _ _ c.is_dead.ensures c.if-is_dead.true)))
 
-returns-3 : tie.Need-returns-3
+returns-3 : tie.Need-returns
 returns-3 c =
-    let k = c.before in
-    let a = k.before.before.args in
+    let a = c.args in
     judged_by a.direction
-    (test_passes (sym (ne_eqb a.mark 0 k.before.if1.false)) 22 a.p 0 refl
-    (sym (cond_left _ _ k.is-dead.ensures c.if2.false)))
+    (test_passes (sym (ne_eqb a.mark 0 c.if-mark-eq0.false)) 22 a.p 0 refl
+    (sym (cond_left _ _ c.is_dead.ensures c.if-is_dead.false)))
 
-pub judge-recovering-spec : {M : Type 1} → statement M
-judge-recovering-spec =
+pub judge_recovering_spec : {M : Type 1} → statement M
+judge_recovering_spec =
     tie.close
     (tie.spec refused-requires returns is-dead-requires refused-requires-2 returns-2 returns-3)

@@ -13,7 +13,7 @@ use Rattle.sessions.proofs.report_fields.Statement.{statement}
 use Rattle.sessions.proofs.report_fields.Tie as tie
 
 -- the start of the call, and its session
-abbrev start : tie.After-judge → tie.Start
+abbrev start : tie.After-judge-judged → tie.Start
 start c = c.before.before.before.before.before.before.before
 
 abbrev of-call : tie.Start → Session
@@ -25,77 +25,76 @@ wide : (c : tie.Start) → Wide (of-call c)
 wide c = search rules
 
 -- a report that is accepted, and the direction of its path
-accepted : (c : tie.After-judged2) → let s = start c.before.before in
+accepted : (c : tie.In-Path) → let s = start c.before in
     (report_test (of-call s) s.args.failing s.args.position ≡ Accepted)
-    × (path_of (of-call s) s.args.failing s.args.position ≡ c.judged2.given.0.0)
+    × (path_of (of-call s) s.args.failing s.args.position ≡ c.in-Path.e)
 accepted c =
-    let s = start c.before.before in
+    let s = start c.before in
     let a = s.args in
     judged_accepted (report_test (of-call s) a.failing a.position) (path_of (of-call s) a.failing a.position)
-    (sym c.before.before.judge.ensures ∙ c.judged2.given.1)
+    (sym c.judge-judged.ensures ∙ c.in-Path.is)
 
-stood : (c : tie.After-judged2) → let s = start c.before.before in Standing (of-call s) s.args.position
+stood : (c : tie.In-Path) → let s = start c.before in Standing (of-call s) s.args.position
 stood c =
-    let s = start c.before.before in
+    let s = start c.before in
     let h = accepted c in
     accepted_standing (of-call s) s.args.failing s.args.position (wide s) h.0 h.1
 
-slice-aggregate-judge : tie.Need-slice-aggregate-judge
+slice-aggregate-judge : tie.Need-slice_bounds-judge-end
 slice-aggregate-judge c = search rules
 
-slice-aggregate-judge-2 : tie.Need-slice-aggregate-judge-2
+slice-aggregate-judge-2 : tie.Need-slice_bounds-judge-end-2
 slice-aggregate-judge-2 c = search rules
 
-slice-aggregate-judge-3 : tie.Need-slice-aggregate-judge-3
+slice-aggregate-judge-3 : tie.Need-slice_bounds-judge-end-3
 slice-aggregate-judge-3 c = search rules
 
-slice-aggregate-judge-4 : tie.Need-slice-aggregate-judge-4
+slice-aggregate-judge-4 : tie.Need-slice_bounds-judge-end-4
 slice-aggregate-judge-4 c = search rules
 
-slice-aggregate-judge-5 : tie.Need-slice-aggregate-judge-5
+slice-aggregate-judge-5 : tie.Need-slice_bounds-judge-end-5
 slice-aggregate-judge-5 c = search rules
 
-slice-aggregate-judge-6 : tie.Need-slice-aggregate-judge-6
+slice-aggregate-judge-6 : tie.Need-slice_bounds-judge-end-6
 slice-aggregate-judge-6 c = search rules
 
-judge-requires : tie.Need-judge-requires
+judge-requires : tie.Need-judge-judged-requires
 judge-requires c κs = search rules
 
-enum-known-judged : tie.Need-enum-known-judged
+enum-known-judged : tie.Need-enum_known-judged
 enum-known-judged c = search rules
 
-enum-known-judged-2 : tie.Need-enum-known-judged-2
+enum-known-judged-2 : tie.Need-enum_known-judged-in-Path-1
 enum-known-judged-2 c = search rules
 
-mark-of-requires : tie.Need-mark-of-requires
+mark-of-requires : tie.Need-mark_of-requires
 mark-of-requires c κs = search rules
 
-array-write-grid : tie.Need-array-write-grid
-array-write-grid c = below (stood c.before.before)
+array-write-grid : tie.Need-bounds-grid-position
+array-write-grid c = below (stood c.before)
 
-direction-of-requires : tie.Need-direction-of-requires
+direction-of-requires : tie.Need-direction_of-requires
 direction-of-requires c κs = search rules
 
-array-write-directions : tie.Need-array-write-directions
-array-write-directions c = below (stood c.before.before.before)
+array-write-directions : tie.Need-bounds-directions-position
+array-write-directions c = below (stood c.before.before)
 
-slice-aggregate-alter-counters : tie.Need-slice-aggregate-alter-counters
+slice-aggregate-alter-counters : tie.Need-slice_bounds-alter_counters-end
 slice-aggregate-alter-counters c = search rules
 
-slice-aggregate-alter-counters-2 : tie.Need-slice-aggregate-alter-counters-2
+slice-aggregate-alter-counters-2 : tie.Need-slice_bounds-alter_counters-end-in-Path
 slice-aggregate-alter-counters-2 c = search rules
 
-slice-aggregate-alter-counters-3 : tie.Need-slice-aggregate-alter-counters-3
+slice-aggregate-alter-counters-3 : tie.Need-slice_bounds-alter_counters-end-in-Path-2
 slice-aggregate-alter-counters-3 c = search rules
 
-slice-aggregate-alter-counters-4 : tie.Need-slice-aggregate-alter-counters-4
+slice-aggregate-alter-counters-4 : tie.Need-slice_bounds-alter_counters-end-in-Path-3
 slice-aggregate-alter-counters-4 c = search rules
 
-alter-counters-requires : tie.Need-alter-counters-requires
+alter-counters-requires : tie.Need-alter_counters-requires
 alter-counters-requires c κs =
-    let j = c.before.before.before.before.before.before.before in
-    let s = start j.before.before in
-    let h = accepted j in
+    let s = start c.before.before.before.before.before.before.before in
+    let h = accepted c.before.before.before.before.before.before in
     let w = wide s in (
       accepted_path (of-call s) s.args.failing s.args.position w h.0 h.1,
       w.south_long,
@@ -104,29 +103,25 @@ alter-counters-requires c κs =
       w.west_long,
     )
 
-returns : tie.Need-returns
+returns : tie.Need-returns-in-Refused
 returns c =
-    let k = c.before.before.before in
-    let s = start k in
+    let s = start c.before in
     let a = s.args in
     report_refused (of-call s) a.failing a.position
     (judged_refused (report_test (of-call s) a.failing a.position) (path_of (of-call s) a.failing a.position)
-    (sym k.judge.ensures ∙ c.before.judged.given.1))
+    (sym c.judge-judged.ensures ∙ c.in-Refused.is))
 
-returns-2 : tie.Need-returns-2
+returns-2 : tie.Need-returns-in-Path
 unfolding changed
 returns-2 c =
-    let k = c.before.before.before.before in
-    let m = k.before.before.before.before.before in
-    let j = m.before.before.before in
-    let s = start j.before.before in
-    let h = accepted j in
-    let t = k.alter-counters.ensures in
+    let s = start c.before.before.before.before.before.before.before.before.before.before.before.before in
+    let h = accepted c.before.before.before.before.before.before.before.before.before.before.before in
+    let t = c.alter_counters.ensures in
     report_accepted (of-call s) s.args.failing s.args.position (wide s) h.0 h.1
-    (rw (m.before.mark_of.ensures, m.direction_of.ensures, t.0, t.1, t.2, t.3))
+    (rw (c.mark_of.ensures, c.direction_of.ensures, t.0, t.1, t.2, t.3))
 
-pub report-fields-spec : {M : Type 1} → statement M
-report-fields-spec =
+pub report_fields_spec : {M : Type 1} → statement M
+report_fields_spec =
     tie.close
     (tie.spec
     slice-aggregate-judge

@@ -12,78 +12,72 @@ use Rattle.sessions.proofs.start_session.Statement.{statement}
 use Rattle.sessions.proofs.start_session.Tie as tie
 
 -- the start of the call, and what the plan check answers
-abbrev start : tie.After-check-plan → tie.Start
+abbrev start : tie.After-check_plan-answer → tie.Start
 start c = c.before.before.before
 
-answered : (c : tie.After-check-plan) → let a = (start c).args in
-    c.check_plan.result ≡ check_plan a.n a.m a.grid.now a.directions.now
-answered c = verdict_kept _ _ c.check_plan.ensures
+answered : (c : tie.After-check_plan-answer) → let a = (start c).args in
+    c.check_plan-answer.result ≡ check_plan a.n a.m a.grid.now a.directions.now
+answered c = verdict_kept _ _ c.check_plan-answer.ensures
 
-accepted : (c : tie.After-enum-told2) → let a = (start c.before.before).args in
+accepted : (c : tie.In_default) → let a = (start c.before).args in
     check_plan a.n a.m a.grid.now a.directions.now ≡ Accepted
-accepted c = sym (answered c.before.before) ∙ c.enum-told2.given.1
+accepted c = sym (answered c.before) ∙ c.in_default.is
 
-check-plan-requires : tie.Need-check-plan-requires
+check-plan-requires : tie.Need-check_plan-answer-requires
 check-plan-requires c κs = search rules
 
-enum_told : tie.Need-enum-told
+enum_told : tie.Need-enum_told-1
 enum_told c = search rules
 
-returns : tie.Need-returns
+returns : tie.Need-returns-in-Refused
 returns c =
-    let k = c.before.before in
-    let a = (start k).args in (
-      k.check_plan.ensures,
+    let a = (start c.before).args in (
+      c.check_plan-answer.ensures,
       rw new_zeros
-          (start_refused a.n a.m a.grid.now a.directions.now (sym (answered k) ∙ c.enum_told.given.1)),
+          (start_refused a.n a.m a.grid.now a.directions.now (sym (answered c.before) ∙ c.in-Refused.is)),
     )
 
-enum-told-2 : tie.Need-enum-told-2
+enum-told-2 : tie.Need-enum_told-in_default
 enum-told-2 c = search rules
 
-slice-aggregate-count-all : tie.Need-slice-aggregate-count-all
+slice-aggregate-count-all : tie.Need-slice_bounds-count_all-end
 slice-aggregate-count-all c = search rules
 
-slice-aggregate-count-all-2 : tie.Need-slice-aggregate-count-all-2
+slice-aggregate-count-all-2 : tie.Need-slice_bounds-count_all-end-2
 slice-aggregate-count-all-2 c = search rules
 
-slice-aggregate-count-all-3 : tie.Need-slice-aggregate-count-all-3
+slice-aggregate-count-all-3 : tie.Need-slice_bounds-count_all-end-3
 slice-aggregate-count-all-3 c = search rules
 
-slice-aggregate-count-all-4 : tie.Need-slice-aggregate-count-all-4
+slice-aggregate-count-all-4 : tie.Need-slice_bounds-count_all-end-4
 slice-aggregate-count-all-4 c = search rules
 
-count-all-requires : tie.Need-count-all-requires
+count-all-requires : tie.Need-count_all-requires
 count-all-requires c κs =
-    let t = c.before.before.before.before in
-    let a = (start t.before.before).args in
-    (kept a.n a.m a.grid.now a.directions.now (accepted t), new_zeros, new_zeros, new_zeros, new_zeros)
+    let a = (start c.before.before.before.before.before).args in
+    (kept a.n a.m a.grid.now a.directions.now (accepted c.before.before.before.before), new_zeros, new_zeros, new_zeros, new_zeros)
 
-copy-requires : tie.Need-copy-requires
+copy-requires : tie.Need-copy-own_grid-requires
 copy-requires c κs =
-    let t = c.before.before.before.before.before.before.before.before.before in
-    let a = (start t.before.before).args in
-    (map_formed a.n a.m a.grid.now a.directions.now (accepted t)).length_is
+    let a = (start c.before.before.before.before.before.before.before.before.before.before).args in
+    (map_formed a.n a.m a.grid.now a.directions.now (accepted c.before.before.before.before.before.before.before.before.before)).length_is
 
-copy-requires-2 : tie.Need-copy-requires-2
+copy-requires-2 : tie.Need-copy-own_directions-requires
 copy-requires-2 c κs =
-    let t = c.before.before.before.before.before.before.before.before.before.before in
-    let a = (start t.before.before).args in
-    (started a.n a.m a.grid.now a.directions.now (accepted t)).long
+    let a = (start c.before.before.before.before.before.before.before.before.before.before.before).args in
+    (started a.n a.m a.grid.now a.directions.now (accepted c.before.before.before.before.before.before.before.before.before.before)).long
 
-returns-2 : tie.Need-returns-2
+returns-2 : tie.Need-returns
 returns-2 c =
-    let t = c.before.before.before.before.before.before.before.before.before.before.before in
-    let k = t.before.before in
-    let a = (start k).args in
-    let e = c.before.before.before.before.before.before.count-all.ensures in (
-      k.check_plan.ensures,
-      rw (c.before.copy.ensures, c.copy2.ensures, e.0, e.1, e.2, e.3)
-          (start_accepted a.n a.m a.grid.now a.directions.now (accepted t)),
+    let a = (start c.before.before.before.before.before.before.before.before.before.before.before.before).args in
+    let e = c.count_all.ensures in (
+      c.check_plan-answer.ensures,
+      rw (c.copy-own_grid.ensures, c.copy-own_directions.ensures, e.0, e.1, e.2, e.3)
+          (start_accepted a.n a.m a.grid.now a.directions.now (accepted c.before.before.before.before.before.before.before.before.before.before.before)),
     )
 
-pub start-session-spec : {M : Type 1} → statement M
-start-session-spec =
+pub start_session_spec : {M : Type 1} → statement M
+start_session_spec =
     tie.close
     (tie.spec
     check-plan-requires
