@@ -19,6 +19,8 @@ HEAD = re.compile(
     r'([^\s(){}\[\],;."`:]+)\s*(?:[({].*)?:(?:\s|$)'
 )
 RULESET = re.compile(r"^\s*(?:pub\s+)?ruleset\s+(?:pub\s+)?([^\s(){}\[\],;=]+)")
+# Names that would fall together with another one.
+APART = {"Demand-3": "Demand3ForAll"}
 PAGES = ["README.md", "docs"]
 
 
@@ -47,6 +49,8 @@ def code_of(line):
 
 
 def spelled(name):
+    if name in APART:
+        return APART[name]
     parts = name.split("-")
     if name[0].isupper():
         return "".join(p[:1].upper() + p[1:] for p in parts)

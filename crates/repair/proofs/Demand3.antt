@@ -28,7 +28,7 @@ use Rattle.repair.specs.Operations.{kept_by, left_by, planned_by, counts, answer
 use Rattle.repair.specs.Operations.{plan_by, directions_by, answer_after, is_repaired, is_beyond}
 use Rattle.repair.specs.Demand3.{Given, Good, answer, planned_directions, paths}
 use Rattle.repair.specs.Demand3.{kept_of, left_of, search_of, T_of, rest_of}
-use Rattle.repair.specs.Demand3.{used, AfterRepaired, Demand3, Demand3}
+use Rattle.repair.specs.Demand3.{used, AfterRepaired, Demand3, Demand3ForAll}
 use Rattle.repair.specs.Demand3.{UnderLimit, SomePlan, WithoutLimit, ExactAgrees}
 use Rattle.repair.specs.Demand3.{NotSpent, PlannersAgree}
 use Rattle.repair.specs.declared.Planner.{Planner}
@@ -197,7 +197,7 @@ module _ (g : Given) (good : Good g) where
         after = after_repaired;
       }
 
-pub demand_3 : Demand3
+pub demand_3 : Demand3ForAll
 demand_3 g good = whole_run g good
 
 -- an answer that is not spent says beyond repair exactly when all choices are ruled out

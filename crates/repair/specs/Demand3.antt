@@ -134,8 +134,8 @@ pub record Demand3 (g : Given) : Type 0 where
   pub after : is_repaired (answer g) ≡ true → AfterRepaired g
 
 -- for every well-formed map, every limit and every content of the lent buffers
-abbrev pub Demand3 : Type 0
-Demand3 = (g : Given) → Good g → Demand3 g
+abbrev pub Demand3ForAll : Type 0
+Demand3ForAll = (g : Given) → Good g → Demand3 g
 
 -- two runs of one map
 pub record SameMap (g h : Given) : Type 0 where

@@ -75,75 +75,67 @@ read-groups-below t =
     and 1 read-groups-kinds.ps (falls 1 read-groups-kinds.ps ◌<◌ μ-read-groups t) read-groups.Pre
 
 -- the groups that follow the first, where they are read
-module _ {t : ℕ} (c : read-groups-lts.After-wide2
+module _ {t : ℕ} (c : read-groups-lts.After-wide-2
     (refused-reads.Asked, refused-reads.Learnt, wide-reads.Asked, wide-reads.Learnt, read-groups-below t, read-groups.Post)
     (read-groups-at t) read-groups.Post) where
   rest-low :
-      let d = c.before.before.before in
-      let g = d.before.before in
-      d.a.given.0.0 < groups_limit (g.before.before.before.before.before.before.args.groups - 1)
-  rest-low = let d = c.before.before.before in rw d.a.given.1 at d.before.before.read-groups.ensures.1
+      c.in-Read.rest < groups_limit (c.args.groups - 1)
+  rest-low = rw c.in-Read.is at c.read_groups-a.ensures.1
 
-  rest-high : c.before.before.before.a.given.0.0 < 16384
+  rest-high : c.in-Read.rest < 16384
   rest-high =
-      let f = c.before.before.before.before.before.before.before.before.before.before.before in
-      omega (arith, rest-low, two_groups_high (f.args.groups - 1) (omega (arith, f.requires.1)))
+      omega (arith, rest-low, two_groups_high (c.args.groups - 1) (omega (arith, c.requires.1)))
 
-pub +read-groups-spec : {M : Type 1} → statement M
-+read-groups-spec = close μ-read-groups λ t. read-groups-lts.spec
+pub +read_groups_spec : {M : Type 1} → statement M
++read_groups_spec = close μ-read-groups λ t. read-groups-lts.spec
     (refused-reads.Asked, refused-reads.Learnt, wide-reads.Asked, wide-reads.Learnt, read-groups-below t, read-groups.Post)
     (read-groups-at t)
     read-groups.Post
     (λ c κs. search rules)
     (λ c.
-    let a = c.before.before.before.args in
+    let a = c.args in
     refused_as _ _ _ _ c.refused.ensures
-    (ap (λ (k : ℕ). groups_at a.s.now a.start k a.at) c.before.if1.true ∙ no_group _ _ _))
+    (ap (λ (k : ℕ). groups_at a.s.now a.start k a.at) c.if-groups-eq0.true ∙ no_group _ _ _))
     (λ c κs. search rules)
     (λ c.
-    let a = c.before.before.before.before.args in
-    refused_as _ _ _ _ c.refused2.ensures
-    (counted a.s.now a.start a.groups a.at c.before.before.if1.false ∙ ended _ _ _ _ c.before.if2.true))
+    let a = c.args in
+    refused_as _ _ _ _ c.refused-then-s-at.ensures
+    (counted a.s.now a.start a.groups a.at c.if-groups-eq0.false ∙ ended _ _ _ _ c.if-s-at.true))
     (λ c. search rules)
     (λ c κs. search rules)
     (λ c. search rules)
     (λ c.
-    let a = c.before.before.before.before.before.before.args in
-    let z = c.before.before.before.before.if1.false in
+    let a = c.args in
+    let z = c.if-groups-eq0.false in
     let l = low-enough a.s.now a.start a.groups a.at z in
     read_as c.wide.ensures.0
-    (counted a.s.now a.start a.groups a.at z ∙ last_group _ _ _ _ (omega arith) c.before.if3.true)
+    (counted a.s.now a.start a.groups a.at z ∙ last_group _ _ _ _ (omega arith) c.if-low-lt128.true)
     (omega arith))
     (λ c. search rules)
     (λ c. search rules)
-    (λ c κs. (omega (arith, c.before.before.before.before.before.requires.0), omega (arith, c.before.before.before.before.before.requires.1)))
+    (λ c κs. (omega (arith, c.requires.0), omega (arith, c.requires.1)))
     (λ c. search rules)
     (λ c. search rules)
     (λ c.
-    let g = c.before.before in
-    let a = g.before.before.before.before.before.before.args in
-    let e = c.enum_told.given.1 in
+    let a = c.args in
+    let e = c.in_default.is in
     refused_as _ _ _ _ e
-    (stops a.s.now a.start a.groups a.at g.before.before.before.before.if1.false (omega arith) g.before.if3.false
-    g.read-groups.result g.read-groups.ensures.0 _ e))
+    (stops a.s.now a.start a.groups a.at c.if-groups-eq0.false (omega arith) c.if-low-lt128.false
+    c.read_groups-a.result c.read_groups-a.ensures.0 _ e))
     (λ c κs. search rules)
     (λ c.
-    let d = c.before.before.before in
-    let g = d.before.before in
-    let a = g.before.before.before.before.before.before.args in
-    refused_as _ _ _ _ c.refused3.ensures
-    (not_shortest a.s.now a.start a.groups a.at g.before.before.before.before.if1.false (omega arith) g.before.if3.false
-    g.read-groups.result g.read-groups.ensures.0 _ _ d.a.given.1 c.before.if4.true))
+    let a = c.args in
+    refused_as _ _ _ _ c.refused-then-rest-eq0.ensures
+    (not_shortest a.s.now a.start a.groups a.at c.if-groups-eq0.false (omega arith) c.if-low-lt128.false
+    c.read_groups-a.result c.read_groups-a.ensures.0 _ _ c.in-Read.is c.if-rest-eq0.true))
     (λ c κs. search rules)
     (λ c. search rules)
     (λ c. omega (arith, rest-high c))
-    (λ c. omega (arith, rest-high c, c.wide2.ensures))
+    (λ c. omega (arith, rest-high c, c.wide-2.ensures))
     (λ c.
-    let d = c.before.before.before in
-    let g = d.before.before in
-    let a = g.before.before.before.before.before.before.args in
-    let z = g.before.before.before.before.if1.false in
-    read_as (ap (λ (k : ℕ). k - 128 + 128 * d.a.given.0.0) c.wide2.ensures.0)
-    (reads a.s.now a.start a.groups a.at z (omega arith) g.before.if3.false
-    g.read-groups.result g.read-groups.ensures.0 _ _ d.a.given.1 c.before.if4.false)
-    (omega (arith, limit_is a.s.now a.start a.groups a.at z, rest-low c, c.wide2.ensures)))
+    let a = c.args in
+    let z = c.if-groups-eq0.false in
+    read_as (ap (λ (k : ℕ). k - 128 + 128 * c.in-Read.rest) c.wide-2.ensures.0)
+    (reads a.s.now a.start a.groups a.at z (omega arith) c.if-low-lt128.false
+    c.read_groups-a.result c.read_groups-a.ensures.0 _ _ c.in-Read.is c.if-rest-eq0.false)
+    (omega (arith, limit_is a.s.now a.start a.groups a.at z, rest-low c, c.wide-2.ensures)))

@@ -6,14 +6,14 @@ use native.Mathlib.Omega.{arith}
 use Rattle.formats.proofs.number_length.Statement.{statement}
 use Rattle.formats.proofs.number_length.Tie as tie
 
-returns : tie.Need-returns
-returns c = (sym (one_byte _ c.if1.true), omega arith)
+returns : tie.Need-returns-then-v-lt128
+returns c = (sym (one_byte _ c.if-v-lt128.true), omega arith)
 
-returns-2 : tie.Need-returns-2
-returns-2 c = (sym (two_bytes _ c.before.if1.false c.if2.true), omega arith)
+returns-2 : tie.Need-returns-then-v-lt16384
+returns-2 c = (sym (two_bytes _ c.before.if-v-lt128.false c.if-v-lt16384.true), omega arith)
 
-returns-3 : tie.Need-returns-3
-returns-3 c = (sym (three_bytes _ c.if2.false), omega arith)
+returns-3 : tie.Need-returns
+returns-3 c = (sym (three_bytes _ c.if-v-lt16384.false), omega arith)
 
-pub number-length-spec : {M : Type 1} → statement M
-number-length-spec = tie.close (tie.spec returns returns-2 returns-3)
+pub number_length_spec : {M : Type 1} → statement M
+number_length_spec = tie.close (tie.spec returns returns-2 returns-3)

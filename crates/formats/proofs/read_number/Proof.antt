@@ -11,29 +11,29 @@ use Rattle.formats.proofs.read_number.Tie as tie
 refused-requires : tie.Need-refused-requires
 refused-requires c κs = search rules
 
-returns : tie.Need-returns
-returns c = ap told (c.refused.ensures ∙ sym (ended _ _ 2 _ c.before.if1.true))
+returns : tie.Need-returns-then-s-at
+returns c = ap told (c.refused.ensures ∙ sym (ended _ _ 2 _ c.before.if-s-at.true))
 
-shared-slice-read-first : tie.Need-shared-slice-read-first
+shared-slice-read-first : tie.Need-bounds-s-at
 shared-slice-read-first c = search rules
 
-add-next : tie.Need-overflow-add-next
+add-next : tie.Need-overflow_add-next
 add-next c = search rules
 
 wide-requires : tie.Need-wide-requires
 wide-requires c κs = search rules
 
-returns-2 : tie.Need-returns-2
+returns-2 : tie.Need-returns-then-first-lt128
 returns-2 c = rw c.wide.ensures.0 (ap told (sym (last_group _ _ 2 _ (omega arith) (omega arith))))
 
-read-groups-requires : tie.Need-read-groups-requires
+read-groups-requires : tie.Need-read_groups-requires
 read-groups-requires c κs = search rules
 
-returns-3 : tie.Need-returns-3
-returns-3 c = c.read-groups.ensures.0
+returns-3 : tie.Need-returns
+returns-3 c = c.read_groups.ensures.0
 
-pub read-number-spec : {M : Type 1} → statement M
-read-number-spec =
+pub read_number_spec : {M : Type 1} → statement M
+read_number_spec =
     tie.close
     (tie.spec
     refused-requires

@@ -8,44 +8,44 @@ use borrow.Author.Rules.{rules}
 use Rattle.grids.proofs.judge.Statement.{statement}
 use Rattle.grids.proofs.judge.Tie as tie
 
-add-if1 : tie.Need-overflow-add-if1
+add-if1 : tie.Need-overflow_add-n
 add-if1 c = search rules
 
-returns : tie.Need-returns
-returns c = place_beyond _ (lt-leb _ _ c.if1.true)
+returns : tie.Need-returns-then-n-x
+returns c = place_beyond _ (lt-leb _ _ c.if-n-x.true)
 
-judge-mark-requires : tie.Need-judge-mark-requires
+judge-mark-requires : tie.Need-judge_mark-requires
 judge-mark-requires c κs = search rules
 
-returns-2 : tie.Need-returns-2
+returns-2 : tie.Need-returns-then-y-gt0
 returns-2 c =
     let a = c.before.before.before.args in
-    place_later (le-leb (a.p / 32) (a.n + 1) c.before.before.if1.false) _ _ (ne_eqb (a.p % 32) 0 (λ e. omega arith)) c.judge-mark.ensures
+    place_later (le-leb (a.p / 32) (a.n + 1) c.before.before.if-n-x.false) _ _ (ne_eqb (a.p % 32) 0 (λ e. omega arith)) c.judge_mark.ensures
 
-judge-length-requires : tie.Need-judge-length-requires
+judge-length-requires : tie.Need-judge_length-a-requires
 judge-length-requires c κs = search rules
 
-enum_told : tie.Need-enum-told
+enum_told : tie.Need-enum_told-1
 enum_told c = search rules
 
-returns-3 : tie.Need-returns-3
+returns-3 : tie.Need-returns-in-Wrong
 returns-3 c =
-    let a = c.before.before.before.before.before.args in
-    place_stops (le-leb (a.p / 32) (a.n + 1) c.before.before.before.before.if1.false) _ _ (eq-eqb (a.p % 32) 0 (omega arith)) c.before.before.judge-length.ensures c.enum_told.given.1
+    let a = c.before.before.before.before.args in
+    place_stops (le-leb (a.p / 32) (a.n + 1) c.before.before.before.if-n-x.false) _ _ (eq-eqb (a.p % 32) 0 (omega arith)) c.before.judge_length-a.ensures c.in-Wrong.is
 
-enum-told-2 : tie.Need-enum-told-2
+enum-told-2 : tie.Need-enum_told-in_default
 enum-told-2 c = search rules
 
-judge-mark-requires-2 : tie.Need-judge-mark-requires-2
+judge-mark-requires-2 : tie.Need-judge_mark-requires-2
 judge-mark-requires-2 c κs = search rules
 
-returns-4 : tie.Need-returns-4
+returns-4 : tie.Need-returns
 returns-4 c =
-    let a = c.before.before.before.before.before.before.args in
-    place_goes (le-leb (a.p / 32) (a.n + 1) c.before.before.before.before.before.if1.false) _ _ (eq-eqb (a.p % 32) 0 (omega arith)) c.before.before.before.judge-length.ensures c.before.enum-told2.given.1 c.judge-mark2.ensures
+    let a = c.before.before.before.before.before.args in
+    place_goes (le-leb (a.p / 32) (a.n + 1) c.before.before.before.before.if-n-x.false) _ _ (eq-eqb (a.p % 32) 0 (omega arith)) c.before.before.judge_length-a.ensures c.before.in_default.is c.judge_mark-2.ensures
 
-pub judge-spec : {M : Type 1} → statement M
-judge-spec =
+pub judge_spec : {M : Type 1} → statement M
+judge_spec =
     tie.close
     (tie.spec
     add-if1

@@ -9,37 +9,36 @@ use borrow.Author.Rules.{rules}
 use Rattle.grids.proofs.judge_mark.Statement.{statement}
 use Rattle.grids.proofs.judge_mark.Tie as tie
 
-is-processor-at-requires : tie.Need-is-processor-at-requires
+is-processor-at-requires : tie.Need-is_processor_at-requires
 is-processor-at-requires c κs = search rules
 
-is-inner-at-requires : tie.Need-is-inner-at-requires
+is-inner-at-requires : tie.Need-is_inner_at-requires
 is-inner-at-requires c κs = search rules
 
-add-judge-processor : tie.Need-overflow-add-judge-processor
+add-judge-processor : tie.Need-overflow_add-y
 add-judge-processor c = search rules
 
-judge-processor-requires : tie.Need-judge-processor-requires
+judge-processor-requires : tie.Need-judge_processor-requires
 judge-processor-requires c κs = search rules
 
-returns : tie.Need-returns
+returns : tie.Need-returns-then-is_processor_at
 returns c =
-    let i = c.before.before.before in
-    let a = i.before.args in
-    c.judge-processor.ensures
-    ∙ ap (λ (b : Bool). processor_test b a.b a.line (a.y + 1)) c.before.is-inner-at.ensures
-    ∙ sym (cond_taken _ _ i.is-processor-at.ensures c.before.before.if1.true)
+    let a = c.before.before.before.before.args in
+    c.judge_processor.ensures
+    ∙ ap (λ (b : Bool). processor_test b a.b a.line (a.y + 1)) c.before.is_inner_at.ensures
+    ∙ sym (cond_taken _ _ c.before.before.before.is_processor_at.ensures c.before.before.if-is_processor_at.true)
 
-returns-2 : tie.Need-returns-2
-returns-2 c = rw (sym c.before.before.is-processor-at.ensures ∙ c.before.if1.false, c.if2.true)
+returns-2 : tie.Need-returns-then-b
+returns-2 c = rw (sym c.before.before.is_processor_at.ensures ∙ c.before.if-is_processor_at.false, c.if-b.true)
 
-add-t13 : tie.Need-overflow-add-t13
+add-t13 : tie.Need-overflow_add-result
 add-t13 c = search rules
 
-returns-3 : tie.Need-returns-3
-returns-3 c = rw (sym c.before.before.is-processor-at.ensures ∙ c.before.if1.false, c.if2.false)
+returns-3 : tie.Need-returns
+returns-3 c = rw (sym c.before.before.is_processor_at.ensures ∙ c.before.if-is_processor_at.false, c.if-b.false)
 
-pub judge-mark-spec : {M : Type 1} → statement M
-judge-mark-spec =
+pub judge_mark_spec : {M : Type 1} → statement M
+judge_mark_spec =
     tie.close
     (tie.spec
     is-processor-at-requires

@@ -5,28 +5,28 @@ use borrow.Author.Rules.{rules}
 use Rattle.grids.proofs.judge_processor.Statement.{statement}
 use Rattle.grids.proofs.judge_processor.Tie as tie
 
-is-dead-letter-requires : tie.Need-is-dead-letter-requires
+is-dead-letter-requires : tie.Need-is_dead_letter-requires
 is-dead-letter-requires c κs = search rules
 
-returns : tie.Need-returns
-returns c = rw (sym c.before.before.is-dead-letter.ensures ∙ c.before.if1.true, c.if2.true)
+returns : tie.Need-returns-then-inner
+returns c = rw (sym c.before.before.is_dead_letter.ensures ∙ c.before.if-is_dead_letter.true, c.if-inner.true)
 
-returns-2 : tie.Need-returns-2
-returns-2 c = rw (sym c.before.before.is-dead-letter.ensures ∙ c.before.if1.true, c.if2.false)
+returns-2 : tie.Need-returns-then-is_dead_letter
+returns-2 c = rw (sym c.before.before.is_dead_letter.ensures ∙ c.before.if-is_dead_letter.true, c.if-inner.false)
 
-is-fault-requires : tie.Need-is-fault-requires
+is-fault-requires : tie.Need-is_fault-requires
 is-fault-requires c κs = search rules
 
-returns-3 : tie.Need-returns-3
+returns-3 : tie.Need-returns-then-b-is_fault
 returns-3 c =
-    let d = sym c.before.before.before.is-dead-letter.ensures ∙ c.before.before.if1.false in
-    rw (d, ← c.before.is_fault.ensures, c.if3.true)
+    let d = sym c.before.before.before.is_dead_letter.ensures ∙ c.before.before.if-is_dead_letter.false in
+    rw (d, ← c.before.is_fault.ensures, c.if-b-is_fault.true)
 
-returns-4 : tie.Need-returns-4
+returns-4 : tie.Need-returns
 returns-4 c =
-    let d = sym c.before.before.before.is-dead-letter.ensures ∙ c.before.before.if1.false in
-    rw (d, ← c.before.is_fault.ensures, c.if3.false)
+    let d = sym c.before.before.before.is_dead_letter.ensures ∙ c.before.before.if-is_dead_letter.false in
+    rw (d, ← c.before.is_fault.ensures, c.if-b-is_fault.false)
 
-pub judge-processor-spec : {M : Type 1} → statement M
-judge-processor-spec =
+pub judge_processor_spec : {M : Type 1} → statement M
+judge_processor_spec =
     tie.close (tie.spec is-dead-letter-requires returns returns-2 is-fault-requires returns-3 returns-4)

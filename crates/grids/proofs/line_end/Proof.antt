@@ -11,44 +11,41 @@ use borrow.Author.Rules.{rules}
 use Rattle.grids.proofs.line_end.Statement.{statement}
 use Rattle.grids.proofs.line_end.Tie as tie
 
-abbrev invariant-loop : tie.invariant-loop
+abbrev invariant-loop : tie.invariant-loop-at
 invariant-loop s start at₀ at = (start ≤ at) × (at ≤ length s) × (at + line_length (drop at s) ≡ start + line_length (drop start s))
 
-abbrev decreases-loop : tie.decreases-loop
+abbrev decreases-loop : tie.decreases-loop-at
 decreases-loop s start at₀ at = length s - at
 
-loop-holds : tie.Need-loop-init invariant-loop decreases-loop
+loop-holds : tie.Need-loop-at-init invariant-loop decreases-loop
 loop-holds c = (omega arith, omega arith, refl)
 
-shared-slice-read-if1 : tie.Need-shared-slice-read-if1 invariant-loop decreases-loop
+shared-slice-read-if1 : tie.Need-bounds-s-at invariant-loop decreases-loop
 shared-slice-read-if1 c = search rules
 
-returns : tie.Need-returns invariant-loop decreases-loop
+returns : tie.Need-returns-then-s-at-eq10 invariant-loop decreases-loop
 returns c =
-    let b = c.before.before.before in
-    let s = b.before.args.s.now in
-    (omega arith, omega arith, omega (arith, b.loop.invariant.2, line_stops s b.loop.at (omega arith) (eq-eqb _ _ c.if1.true)))
+    let s = c.before.before.before.before.args.s.now in
+    (omega arith, omega arith, omega (arith, c.before.before.before.loop-at.invariant.2, line_stops s c.before.before.before.loop-at.at (omega arith) (eq-eqb _ _ c.if-s-at-eq10.true)))
 
-add_at : tie.Need-overflow-add-at invariant-loop decreases-loop
+add_at : tie.Need-overflow_add-at invariant-loop decreases-loop
 add_at c = search rules
 
-loop-less : tie.Need-loop-smaller invariant-loop decreases-loop
+loop-less : tie.Need-loop-at-smaller invariant-loop decreases-loop
 loop-less c = search rules
 
-loop-again : tie.Need-loop-preserved invariant-loop decreases-loop
+loop-again : tie.Need-loop-at-preserved invariant-loop decreases-loop
 loop-again c =
-    let b = c.before.before.before in
-    let s = b.before.args.s.now in
-    (omega arith, omega arith, omega (arith, b.loop.invariant.2, line_on s b.loop.at (omega arith) (ne_eqb _ _ c.if1.false)))
+    let s = c.before.before.before.before.args.s.now in
+    (omega arith, omega arith, omega (arith, c.before.before.before.loop-at.invariant.2, line_on s c.before.before.before.loop-at.at (omega arith) (ne_eqb _ _ c.if-s-at-eq10.false)))
 
-returns-2 : tie.Need-returns-2 invariant-loop decreases-loop
+returns-2 : tie.Need-returns invariant-loop decreases-loop
 returns-2 c =
-    let b = c.before in
-    let s = b.before.args.s.now in
-    (omega arith, omega arith, omega (arith, b.loop.invariant.2, line_ends s b.loop.at (omega arith)))
+    let s = c.before.before.args.s.now in
+    (omega arith, omega arith, omega (arith, c.before.loop-at.invariant.2, line_ends s c.before.loop-at.at (omega arith)))
 
-pub line-end-spec : {M : Type 1} → statement M
-line-end-spec =
+pub line_end_spec : {M : Type 1} → statement M
+line_end_spec =
     tie.close
     (tie.spec
     invariant-loop

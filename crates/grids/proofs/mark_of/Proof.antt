@@ -9,24 +9,23 @@ use borrow.Author.Rules.{rules}
 use Rattle.grids.proofs.mark_of.Statement.{statement}
 use Rattle.grids.proofs.mark_of.Tie as tie
 
-is-processor-requires : tie.Need-is-processor-requires
+is-processor-requires : tie.Need-is_processor-requires
 is-processor-requires c κs = search rules
 
-returns : tie.Need-returns
-returns c = sym (cond_left _ _ c.before.is-processor.ensures (not-true _ c.if1.true))
+returns : tie.Need-returns-then-not-is_processor
+returns c = sym (cond_left _ _ c.before.is_processor.ensures (not-true _ c.if-not-is_processor.true-raw))
 
-is-inner-requires : tie.Need-is-inner-requires
+is-inner-requires : tie.Need-is_inner-requires
 is-inner-requires c κs = search rules
 
-processor-mark-requires : tie.Need-processor-mark-requires
+processor-mark-requires : tie.Need-processor_mark-requires
 processor-mark-requires c κs = search rules
 
-returns-2 : tie.Need-returns-2
+returns-2 : tie.Need-returns
 returns-2 c =
-    let i = c.before.before.before in
     c.processor_mark.ensures
-    ∙ ap (λ (b : Bool). processor_mark b i.before.args.b) c.before.is-inner.ensures
-    ∙ sym (cond_taken _ _ i.is-processor.ensures (not-false _ c.before.before.if1.false))
+    ∙ ap (λ (b : Bool). processor_mark b c.before.before.before.before.args.b) c.before.is_inner.ensures
+    ∙ sym (cond_taken _ _ c.before.before.before.is_processor.ensures (not-false _ c.before.before.if-not-is_processor.false-raw))
 
-pub mark-of-spec : {M : Type 1} → statement M
-mark-of-spec = tie.close (tie.spec is-processor-requires returns is-inner-requires processor-mark-requires returns-2)
+pub mark_of_spec : {M : Type 1} → statement M
+mark_of_spec = tie.close (tie.spec is-processor-requires returns is-inner-requires processor-mark-requires returns-2)

@@ -3,11 +3,11 @@
 use Rattle.grids.proofs.pass_blank.Statement.{statement}
 use Rattle.grids.proofs.pass_blank.Tie as tie
 
-returns : tie.Need-returns
-returns c = rw c.if1.true
+returns : tie.Need-returns-then-seen
+returns c = rw c.if-seen.true
 
-returns-2 : tie.Need-returns-2
-returns-2 c = rw c.if1.false
+returns-2 : tie.Need-returns
+returns-2 c = rw c.if-seen.false
 
-pub pass-blank-spec : {M : Type 1} → statement M
-pass-blank-spec = tie.close (tie.spec returns returns-2)
+pub pass_blank_spec : {M : Type 1} → statement M
+pass_blank_spec = tie.close (tie.spec returns returns-2)

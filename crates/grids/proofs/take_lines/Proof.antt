@@ -11,75 +11,75 @@ use borrow.Author.Rules.{rules}
 use Rattle.grids.proofs.take_lines.Statement.{statement}
 use Rattle.grids.proofs.take_lines.Tie as tie
 
-abbrev invariant-loop : tie.invariant-loop
+abbrev invariant-loop : tie.invariant-loop-at
 invariant-loop s cells₀ lengths₀ lines₀ at₀ line₀ seen₀ cells lengths lines at line seen =
     (at ≤ length s)
     × (line ≤ at)
     × (take_lines 0 (lines_of s) (rows_of (record { rows = 0; blank = 0 }) cells₀ lengths₀ lines₀)
     ≡ take_lines line (lines_of (drop at s)) (rows_of seen cells lengths lines))
 
-abbrev decreases-loop : tie.decreases-loop
+abbrev decreases-loop : tie.decreases-loop-at
 decreases-loop s cells₀ lengths₀ lines₀ at₀ line₀ seen₀ cells lengths lines at line seen = length s - at
 
-loop-holds : tie.Need-loop-init invariant-loop decreases-loop
+loop-holds : tie.Need-loop-at-init invariant-loop decreases-loop
 loop-holds c = (omega arith, omega arith, refl)
 
-line-end-requires : tie.Need-line-end-requires invariant-loop decreases-loop
+line-end-requires : tie.Need-line_end-stop-requires invariant-loop decreases-loop
 line-end-requires c κs = search rules
 
-trimmed-requires : tie.Need-trimmed-requires invariant-loop decreases-loop
+trimmed-requires : tie.Need-trimmed-end-requires invariant-loop decreases-loop
 trimmed-requires c κs = search rules
 
-add-line : tie.Need-overflow-add-line invariant-loop decreases-loop
+add-line : tie.Need-overflow_add-line invariant-loop decreases-loop
 add-line c = search rules
 
-take-line-requires : tie.Need-take-line-requires invariant-loop decreases-loop
+take-line-requires : tie.Need-take_line-a-requires invariant-loop decreases-loop
 take-line-requires c κs = search rules
 
-enum-known-a : tie.Need-enum-known-a invariant-loop decreases-loop
+enum-known-a : tie.Need-enum_known-a invariant-loop decreases-loop
 enum-known-a c = search rules
 
-enum_told : tie.Need-enum-told invariant-loop decreases-loop
+enum_told : tie.Need-enum_told-1 invariant-loop decreases-loop
 enum_told c = search rules
 
-returns : tie.Need-returns invariant-loop decreases-loop
+returns : tie.Need-returns-in_default invariant-loop decreases-loop
 returns c =
-    let s = c.before.before.before.before.before.before.before.before.before.before.before.args.s.now in
-    let l = c.before.before.before.before.before.before.before.before.before.loop in
+    let s = c.before.before.before.before.before.before.before.before.before.before.args.s.now in
+    let l = c.before.before.before.before.before.before.before.before.loop-at in
     let r = rows_of l.seen l.cells l.lengths l.lines in
-    let d = lines_cut s l.at (omega arith) c.before.before.before.before.before.before.before.line-end.ensures.2 in
-    let t = c.before.before.before.before.before.before.trimmed.ensures.2 in
-    rw c.enum_told.given.1 (sym (l.invariant.2 ∙ lines_stop l.line r d t (rw c.enum_told.given.1 at c.before.before.take_line.ensures)))
+    let d = lines_cut s l.at (omega arith) c.before.before.before.before.before.before.line_end-stop.ensures.2 in
+    let t = c.before.before.before.before.before.trimmed-end.ensures.2 in
+    rw c.in_default.is (sym (l.invariant.2 ∙ lines_stop l.line r d t (rw c.in_default.is at c.before.take_line-a.ensures)))
 
-returns-2 : tie.Need-returns-2 invariant-loop decreases-loop
+returns-2 : tie.Need-returns-then-s-stop invariant-loop decreases-loop
 returns-2 c =
-    let s = c.before.before.before.before.before.before.before.before.before.before.before.before.before.args.s.now in
-    let l = c.before.before.before.before.before.before.before.before.before.before.before.loop in
+    let s = c.before.before.before.before.before.before.before.before.before.before.before.args.s.now in
+    let l = c.before.before.before.before.before.before.before.before.before.loop-at in
     let r = rows_of l.seen l.cells l.lengths l.lines in
-    let d = lines_cut s l.at (omega arith) c.before.before.before.before.before.before.before.before.before.line-end.ensures.2 in
-    let t = c.before.before.before.before.before.before.before.before.trimmed.ensures.2 in
-    sym (l.invariant.2 ∙ lines_on l.line r d t (rw c.before.before.a.given.1 at c.before.before.before.before.take_line.ensures) ∙ sym (lines_none _ _ (no_lines s (c.before.before.before.before.before.before.before.before.before.line-end.result + 1) (omega arith))))
+    let d = lines_cut s l.at (omega arith) c.before.before.before.before.before.before.before.line_end-stop.ensures.2 in
+    let t = c.before.before.before.before.before.before.trimmed-end.ensures.2 in
+    sym (l.invariant.2 ∙ lines_on l.line r d t (rw c.before.in-Next.is at c.before.before.take_line-a.ensures) ∙ sym (lines_none _ _ (no_lines s (c.before.before.before.before.before.before.before.line_end-stop.result + 1) (omega arith))))
 
-add_at : tie.Need-overflow-add-at invariant-loop decreases-loop
+add_at : tie.Need-overflow_add-at invariant-loop decreases-loop
 add_at c = search rules
 
-loop-less : tie.Need-loop-smaller invariant-loop decreases-loop
+loop-less : tie.Need-loop-at-smaller invariant-loop decreases-loop
 loop-less c = search rules
 
-loop-again : tie.Need-loop-preserved invariant-loop decreases-loop
+loop-again : tie.Need-loop-at-preserved invariant-loop decreases-loop
 loop-again c =
-    let s = c.before.before.before.before.before.before.before.before.before.before.before.before.before.args.s.now in
-    let l = c.before.before.before.before.before.before.before.before.before.before.before.loop in
+    let s = c.before.before.before.before.before.before.before.before.before.before.before.args.s.now in
+    let l = c.before.before.before.before.before.before.before.before.before.loop-at in
     let r = rows_of l.seen l.cells l.lengths l.lines in
-    let d = lines_cut s l.at (omega arith) c.before.before.before.before.before.before.before.before.before.line-end.ensures.2 in
-    let t = c.before.before.before.before.before.before.before.before.trimmed.ensures.2 in
-    (omega arith, omega arith, l.invariant.2 ∙ lines_on l.line r d t (rw c.before.before.a.given.1 at c.before.before.before.before.take_line.ensures))
+    let d = lines_cut s l.at (omega arith) c.before.before.before.before.before.before.before.line_end-stop.ensures.2 in
+    let t = c.before.before.before.before.before.before.trimmed-end.ensures.2 in
+    (omega arith, omega arith, l.invariant.2 ∙ lines_on l.line r d t (rw c.before.in-Next.is at c.before.before.take_line-a.ensures))
 
-returns-3 : tie.Need-returns-3 invariant-loop decreases-loop
-returns-3 c = let l = c.before.loop in sym (l.invariant.2 ∙ sym (lines_none _ _ (no_lines c.before.before.before.args.s.now l.at (omega arith))))
+returns-3 : tie.Need-returns invariant-loop decreases-loop
+returns-3 c = let l = c.before.loop-at in sym (l.invariant.2 ∙ sym (lines_none _ _ (no_lines c.before.before.before.args.s.now l.at (omega arith))))
 
-pub take-lines-spec : {M : Type 1} → statement M
-take-lines-spec =
+pub take_lines_spec : {M : Type 1} → statement M
+take_lines_spec =
     tie.close
     (tie.spec
     invariant-loop

@@ -11,49 +11,46 @@ use borrow.Author.Rules.{rules}
 use Rattle.grids.proofs.trimmed.Statement.{statement}
 use Rattle.grids.proofs.trimmed.Tie as tie
 
-abbrev invariant-loop : tie.invariant-loop
+abbrev invariant-loop : tie.invariant-loop-end
 invariant-loop s start stop end₀ end = (start ≤ end) × (end ≤ stop) × (trim (slice start end s) ≡ trim (slice start stop s))
 
-abbrev decreases-loop : tie.decreases-loop
+abbrev decreases-loop : tie.decreases-loop-end
 decreases-loop s start stop end₀ end = end - start
 
-loop-holds : tie.Need-loop-init invariant-loop decreases-loop
+loop-holds : tie.Need-loop-end-init invariant-loop decreases-loop
 loop-holds c = (omega arith, omega arith, refl)
 
-sub-b : tie.Need-overflow-sub-b invariant-loop decreases-loop
+sub-b : tie.Need-overflow_sub-b invariant-loop decreases-loop
 sub-b c = search rules
 
-shared-slice-read-b : tie.Need-shared-slice-read-b invariant-loop decreases-loop
+shared-slice-read-b : tie.Need-bounds-s-end invariant-loop decreases-loop
 shared-slice-read-b c = search rules
 
-returns : tie.Need-returns invariant-loop decreases-loop
+returns : tie.Need-returns-then-not-b invariant-loop decreases-loop
 returns c =
-    let b = c.before.before.before in
-    let a = b.before.args in
-    let k = trims_none a.s.now a.start b.loop.end (omega arith) (omega arith) (not-true _ c.if1.true) in
-    (omega arith, omega arith, k ∙ b.loop.invariant.2)
+    let a = c.before.before.before.before.args in
+    let k = trims_none a.s.now a.start c.before.before.before.loop-end.end (omega arith) (omega arith) (not-true _ c.if-not-b.true-raw) in
+    (omega arith, omega arith, k ∙ c.before.before.before.loop-end.invariant.2)
 
-sub-end : tie.Need-overflow-sub-end invariant-loop decreases-loop
+sub-end : tie.Need-overflow_sub-end invariant-loop decreases-loop
 sub-end c = search rules
 
-loop-less : tie.Need-loop-smaller invariant-loop decreases-loop
+loop-less : tie.Need-loop-end-smaller invariant-loop decreases-loop
 loop-less c = search rules
 
-loop-again : tie.Need-loop-preserved invariant-loop decreases-loop
+loop-again : tie.Need-loop-end-preserved invariant-loop decreases-loop
 loop-again c =
-    let b = c.before.before.before in
-    let a = b.before.args in
-    let k = trims_one a.s.now a.start b.loop.end (omega arith) (omega arith) (not-false _ c.if1.false) in
-    (omega arith, omega arith, sym k ∙ b.loop.invariant.2)
+    let a = c.before.before.before.before.args in
+    let k = trims_one a.s.now a.start c.before.before.before.loop-end.end (omega arith) (omega arith) (not-false _ c.if-not-b.false-raw) in
+    (omega arith, omega arith, sym k ∙ c.before.before.before.loop-end.invariant.2)
 
-returns-2 : tie.Need-returns-2 invariant-loop decreases-loop
+returns-2 : tie.Need-returns invariant-loop decreases-loop
 returns-2 c =
-    let b = c.before in
-    let a = b.before.args in
-    (omega arith, omega arith, trims_nothing a.s.now a.start b.loop.end (omega arith) ∙ b.loop.invariant.2)
+    let a = c.before.before.args in
+    (omega arith, omega arith, trims_nothing a.s.now a.start c.before.loop-end.end (omega arith) ∙ c.before.loop-end.invariant.2)
 
-pub trimmed-spec : {M : Type 1} → statement M
-trimmed-spec =
+pub trimmed_spec : {M : Type 1} → statement M
+trimmed_spec =
     tie.close
     (tie.spec
     invariant-loop

@@ -12,38 +12,38 @@ use borrow.Author.Rules.{rules}
 use Rattle.grids.proofs.write_marks.Statement.{statement}
 use Rattle.grids.proofs.write_marks.Tie as tie
 
-abbrev invariant-loop : tie.invariant-loop
+abbrev invariant-loop : tie.invariant-loop-i
 invariant-loop n m grid needed out₀ i₀ out i = (i ≤ needed) × Run out₀ 0 (text n m grid) out i (span (text_byte n m grid) i (needed - i))
 
-abbrev decreases-loop : tie.decreases-loop
+abbrev decreases-loop : tie.decreases-loop-i
 decreases-loop n m grid needed out₀ i₀ out i = needed - i
 
-loop-holds : tie.Need-loop-init invariant-loop decreases-loop
+loop-holds : tie.Need-loop-i-init invariant-loop decreases-loop
 loop-holds c = let a = c.before.before.args in (omega arith, text_start a.n a.m a.grid.now a.out.now a.needed c.before.before.requires.3 c.before.before.requires.4)
 
-text-byte-requires : tie.Need-text-byte-requires invariant-loop decreases-loop
+text-byte-requires : tie.Need-text_byte-requires invariant-loop decreases-loop
 text-byte-requires c κs = search rules
 
-slice-write-out : tie.Need-slice-write-out invariant-loop decreases-loop
+slice-write-out : tie.Need-bounds-out-i invariant-loop decreases-loop
 slice-write-out c = search rules
 
-add-i : tie.Need-overflow-add-i invariant-loop decreases-loop
+add-i : tie.Need-overflow_step-i invariant-loop decreases-loop
 add-i c = search rules
 
-loop-less : tie.Need-loop-smaller invariant-loop decreases-loop
+loop-less : tie.Need-loop-i-smaller invariant-loop decreases-loop
 loop-less c = search rules
 
-loop-again : tie.Need-loop-preserved invariant-loop decreases-loop
-loop-again c = let a = c.before.before.before.before.before.args in (omega arith, run_step c.before.before.loop.invariant.1 (span_turn (text_byte a.n a.m a.grid.now) a.needed c.before.before.loop.i (omega arith)) refl (ap (λ (v : ℕ). set c.before.before.loop.out c.before.before.loop.i v) c.text_byte.ensures))
+loop-again : tie.Need-loop-i-preserved invariant-loop decreases-loop
+loop-again c = let a = c.before.before.before.before.before.args in (omega arith, run_step c.before.before.loop-i.invariant.1 (span_turn (text_byte a.n a.m a.grid.now) a.needed c.before.before.loop-i.i (omega arith)) refl (ap (λ (v : ℕ). set c.before.before.loop-i.out c.before.before.loop-i.i v) c.text_byte.ensures))
 
-same_length : tie.Need-same-length invariant-loop decreases-loop
+same_length : tie.Need-shape_of-out invariant-loop decreases-loop
 same_length c = search rules
 
 returns : tie.Need-returns invariant-loop decreases-loop
-returns c = let a = c.before.before.before.before.args in (run_end c.before.loop.invariant.1 (span_end (text_byte a.n a.m a.grid.now) a.needed c.before.loop.i (omega arith))).1
+returns c = let a = c.before.before.before.before.args in (run_end c.before.loop-i.invariant.1 (span_end (text_byte a.n a.m a.grid.now) a.needed c.before.loop-i.i (omega arith))).1
 
-pub write-marks-spec : {M : Type 1} → statement M
-write-marks-spec =
+pub write_marks_spec : {M : Type 1} → statement M
+write_marks_spec =
     tie.close
     (tie.spec
     invariant-loop

@@ -9,32 +9,32 @@ use borrow.Author.Rules.{rules}
 use Rattle.grids.proofs.write_text.Statement.{statement}
 use Rattle.grids.proofs.write_text.Tie as tie
 
-check-map-requires : tie.Need-check-map-requires
+check-map-requires : tie.Need-check_map-v-requires
 check-map-requires c κs = λ h. eqb-true _ _ h
 
-enum-known-v : tie.Need-enum-known-v
+enum-known-v : tie.Need-enum_known-v
 enum-known-v c = search rules
 
-returns : tie.Need-returns
-returns c = let a = c.before.before.before.before.before.before.args in
-    answered told (by_tests a.n a.m a.grid.now a.out.now (sym (tests_are a.n a.m a.grid.now a.out.now) ∙ sym c.before.before.before.check-map.ensures ∙ c.before.v.given.1))
+returns : tie.Need-returns-in-Refused
+returns c = let a = c.before.before.before.before.args in
+    answered told (by_tests a.n a.m a.grid.now a.out.now (sym (tests_are a.n a.m a.grid.now a.out.now) ∙ sym c.before.check_map-v.ensures ∙ c.in-Refused.is))
 
-enum_told : tie.Need-enum-told
+enum_told : tie.Need-enum_told-1
 enum_told c = search rules
 
-write-tested-requires : tie.Need-write-tested-requires
-write-tested-requires c κs = let a = c.before.before.before.before.before.before.args in
-    sym (tests_are a.n a.m a.grid.now a.out.now) ∙ sym c.before.before.before.check-map.ensures ∙ c.before.enum_told.given.1
+write-tested-requires : tie.Need-write_tested-requires
+write-tested-requires c κs = let a = c.before.before.before.before.before.args in
+    sym (tests_are a.n a.m a.grid.now a.out.now) ∙ sym c.before.before.check_map-v.ensures ∙ c.before.in_default.is
 
-same_length : tie.Need-same-length
+same_length : tie.Need-shape_of-out
 same_length c = search rules
 
-returns-2 : tie.Need-returns-2
-returns-2 c = let a = c.before.before.before.before.before.before.before.before.before.args in
-    answered told (c.before.before.write-tested.ensures ∙ by_room a.n a.m a.grid.now a.out.now (sym (tests_are a.n a.m a.grid.now a.out.now) ∙ sym c.before.before.before.before.before.before.check-map.ensures ∙ c.before.before.before.before.enum_told.given.1))
+returns-2 : tie.Need-returns
+returns-2 c = let a = c.before.before.before.before.before.before.before.before.args in
+    answered told (c.before.before.write_tested.ensures ∙ by_room a.n a.m a.grid.now a.out.now (sym (tests_are a.n a.m a.grid.now a.out.now) ∙ sym c.before.before.before.before.before.check_map-v.ensures ∙ c.before.before.before.before.in_default.is))
 
-pub write-text-spec : {M : Type 1} → statement M
-write-text-spec =
+pub write_text_spec : {M : Type 1} → statement M
+write_text_spec =
     tie.close
     (tie.spec
     check-map-requires

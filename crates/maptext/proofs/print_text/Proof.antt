@@ -10,59 +10,56 @@ use borrow.Author.Rules.{rules}
 use Rattle.maptext.proofs.print_text.Statement.{statement}
 use Rattle.maptext.proofs.print_text.Tie as tie
 
-within : (c : tie.After-known-told) → c.before.a.given.0.0 ≤ length c.before.before.before.before.before.write_text.new.1.1.1.0
+within : (c : tie.In-Length) → c.in-Length.k ≤ length c.before.before.before.write_text-a.new.out
 within c =
-    let a = c.before.before.before.before.before.before.before.before.before.args in
+    let a = c.before.before.before.before.before.before.before.args in
     omega (
       arith,
-      text_within a.n a.m a.grid.now a.text.now c.before.before.before.before.before.write_text.result c.before.a.given.0.0 c.before.before.before.before.before.write_text.ensures.0 c.before.a.given.1,
-      c.before.before.before.before.before.write_text.auto.1.1.1.0,
+      text_within a.n a.m a.grid.now a.text.now c.before.before.before.write_text-a.result c.in-Length.k c.before.before.before.write_text-a.ensures.0 c.in-Length.is,
+      c.before.before.before.write_text-a.auto.out,
     )
 
-write-text-requires : tie.Need-write-text-requires
+write-text-requires : tie.Need-write_text-a-requires
 write-text-requires c κs = search rules
 
-enum-known-a : tie.Need-enum-known-a
+enum-known-a : tie.Need-enum_known-a
 enum-known-a c = search rules
 
-slice-reshare-prefix-write-all : tie.Need-slice-reshare-prefix-write-all
+slice-reshare-prefix-write-all : tie.Need-slice_bounds-write_all-end
 slice-reshare-prefix-write-all c = within c
 
-slice-aggregate-write-all : tie.Need-slice-aggregate-write-all
-slice-aggregate-write-all c = sym (length-take-le c.before.before.a.given.0.0 c.before.before.before.before.before.before.write_text.new.1.1.1.0 (within c.before))
+slice-aggregate-write-all : tie.Need-slice_bounds-write_all-end-in-Length
+slice-aggregate-write-all c = sym (length-take-le c.in-Length.k c.before.before.before.write_text-a.new.out (within c))
 
-write-all-requires : tie.Need-write-all-requires
+write-all-requires : tie.Need-write_all-requires
 write-all-requires c κs = search rules
-
-slice-aggregate-say : tie.Need-slice-aggregate-say
-slice-aggregate-say c = search rules
 
 say-requires : tie.Need-say-requires
 say-requires c κs = search rules
 
-enum_told : tie.Need-enum-told
+enum_told : tie.Need-enum_told-1
 enum_told c = search rules
 
-same_length : tie.Need-same-length
+same_length : tie.Need-shape_of-text-then-not-write_all
 same_length c = search rules
 
-returns : tie.Need-returns
+returns : tie.Need-returns-then-not-write_all
 returns c = search rules
 
-same-length-2 : tie.Need-same-length-2
+same-length-2 : tie.Need-shape_of-text-else-not-write_all
 same-length-2 c = search rules
 
-returns-2 : tie.Need-returns-2
+returns-2 : tie.Need-returns-else-not-write_all
 returns-2 c = search rules
 
-same-length-3 : tie.Need-same-length-3
+same-length-3 : tie.Need-shape_of-text-in_default
 same-length-3 c = search rules
 
-returns-3 : tie.Need-returns-3
+returns-3 : tie.Need-returns-in_default
 returns-3 c = search rules
 
-pub print-text-spec : {M : Type 1} → statement M
-print-text-spec =
+pub print_text_spec : {M : Type 1} → statement M
+print_text_spec =
     tie.close
     (tie.spec
     write-text-requires
@@ -70,7 +67,6 @@ print-text-spec =
     slice-reshare-prefix-write-all
     slice-aggregate-write-all
     write-all-requires
-    slice-aggregate-say
     say-requires
     enum_told
     same_length

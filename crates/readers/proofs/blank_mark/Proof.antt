@@ -8,32 +8,32 @@ use borrow.Author.Rules.{rules}
 use Rattle.readers.proofs.blank_mark.Statement.{statement}
 use Rattle.readers.proofs.blank_mark.Tie as tie
 
-enum_told : tie.Need-enum-told
+enum_told : tie.Need-enum_told-1
 enum_told c = search rules
 
-is-processor-at-requires : tie.Need-is-processor-at-requires
+is-processor-at-requires : tie.Need-is_processor_at-requires
 is-processor-at-requires c κs = search rules
 
-returns : tie.Need-returns
+returns : tie.Need-returns-then-is_processor_at
 returns c =
-    let a = c.before.before.before.before.args in
+    let a = c.before.before.before.args in
     let x : row (position a.x a.y) ≡ a.x = omega arith in
     let y : column (position a.x a.y) ≡ a.y = omega arith in
-    rw (c.before.before.enum_told.given.1, x, y) (sym (cond_taken _ _ c.before.is-processor-at.ensures c.if1.true))
+    rw (c.before.before.in-Map.is, x, y) (sym (cond_taken _ _ c.before.is_processor_at.ensures c.if-is_processor_at.true))
 
-enum-told-2 : tie.Need-enum-told-2
+enum-told-2 : tie.Need-enum_told-in-Plan
 enum-told-2 c = search rules
 
-returns-2 : tie.Need-returns-2
+returns-2 : tie.Need-returns-else-is_processor_at
 returns-2 c =
-    let a = c.before.before.before.before.args in
+    let a = c.before.before.before.args in
     let x : row (position a.x a.y) ≡ a.x = omega arith in
     let y : column (position a.x a.y) ≡ a.y = omega arith in
-    rw (c.before.before.enum_told.given.1, x, y) (sym (cond_left _ _ c.before.is-processor-at.ensures c.if1.false))
+    rw (c.before.before.in-Map.is, x, y) (sym (cond_left _ _ c.before.is_processor_at.ensures c.if-is_processor_at.false))
 
-returns-3 : tie.Need-returns-3
+returns-3 : tie.Need-returns-in-Plan
 returns-3 c = search rules
 
-pub blank-mark-spec : {M : Type 1} → statement M
-blank-mark-spec =
+pub blank_mark_spec : {M : Type 1} → statement M
+blank_mark_spec =
     tie.close (tie.spec enum_told is-processor-at-requires returns enum-told-2 returns-2 returns-3)

@@ -9,35 +9,35 @@ use borrow.Author.Rules.{rules}
 use Rattle.readers.proofs.copy.Statement.{statement}
 use Rattle.readers.proofs.copy.Tie as tie
 
-abbrev invariant-loop : tie.invariant-loop
+abbrev invariant-loop : tie.invariant-loop-p
 invariant-loop to₀ from p₀ to p = Filling (element_of from) 1024 p to
 
-abbrev decreases-loop : tie.decreases-loop
+abbrev decreases-loop : tie.decreases-loop-p
 decreases-loop to₀ from p₀ to p = 1024 - p
 
-loop-holds : tie.Need-loop-init invariant-loop decreases-loop
+loop-holds : tie.Need-loop-p-init invariant-loop decreases-loop
 loop-holds c = fill_start _ _ (omega arith)
 
-array-read-to : tie.Need-array-read-to invariant-loop decreases-loop
+array-read-to : tie.Need-bounds-from-p invariant-loop decreases-loop
 array-read-to c = omega arith
 
-slice-write-to : tie.Need-slice-write-to invariant-loop decreases-loop
+slice-write-to : tie.Need-bounds-to-p invariant-loop decreases-loop
 slice-write-to c = omega arith
 
-add-p : tie.Need-overflow-add-p invariant-loop decreases-loop
+add-p : tie.Need-overflow_step-p invariant-loop decreases-loop
 add-p c = omega arith
 
-loop-less : tie.Need-loop-smaller invariant-loop decreases-loop
+loop-less : tie.Need-loop-p-smaller invariant-loop decreases-loop
 loop-less c = omega arith
 
-loop-again : tie.Need-loop-preserved invariant-loop decreases-loop
-loop-again c = fill_step c.before.loop.invariant _ (omega arith) refl
+loop-again : tie.Need-loop-p-preserved invariant-loop decreases-loop
+loop-again c = fill_step c.before.loop-p.invariant _ (omega arith) refl
 
-same_length : tie.Need-same-length invariant-loop decreases-loop
+same_length : tie.Need-shape_of-to invariant-loop decreases-loop
 same_length c = search rules
 
 returns : tie.Need-returns invariant-loop decreases-loop
-returns c = fill_end c.before.loop.invariant (omega arith) ∙ copied _ _ (search rules)
+returns c = fill_end c.before.loop-p.invariant (omega arith) ∙ copied _ _ (search rules)
 
 pub copy_spec : {M : Type 1} → statement M
 copy_spec =

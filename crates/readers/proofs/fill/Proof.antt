@@ -6,21 +6,21 @@ use borrow.Author.Rules.{rules}
 use Rattle.readers.proofs.fill.Statement.{statement}
 use Rattle.readers.proofs.fill.Tie as tie
 
-returns : tie.Need-returns
+returns : tie.Need-returns-then-end-s
 returns c = λ p.
-    let a = c.before.before.before.args in sym (whole_more a.s.now a.head a.trials a.lent.now a.end p a.b refl c.if1.true)
+    let a = c.before.before.before.args in sym (whole_more a.s.now a.head a.trials a.lent.now a.end p a.b refl c.if-end-s.true)
 
 copy-requires : tie.Need-copy-requires
 copy-requires c κs = search rules
 
-same_length : tie.Need-same-length
+same_length : tie.Need-shape_of-lent
 same_length c = search rules
 
-returns-2 : tie.Need-returns-2
+returns-2 : tie.Need-returns
 returns-2 c = λ p.
     let a = c.before.before.before.before.before.before.before.args in
     rw c.before.before.copy.ensures
-    (sym (whole_read a.s.now a.head a.trials a.lent.now a.end p a.b refl c.before.before.before.before.if1.false))
+    (sym (whole_read a.s.now a.head a.trials a.lent.now a.end p a.b refl c.before.before.before.before.if-end-s.false))
 
 pub fill_spec : {M : Type 1} → statement M
 fill_spec = tie.close (tie.spec returns copy-requires same_length returns-2)

@@ -15,111 +15,106 @@ use Rattle.readers.proofs.mark_one.Statement.{statement}
 use Rattle.readers.proofs.mark_one.Tie as tie
 
 -- what the first and the third test say
-stands : (c : tie.Else1) → c.before.may-stand.result ≡ true
-stands c = not-false _ c.if1.false
+stands : (c : tie.Else-not-may_stand) → c.before.may_stand.result ≡ true
+stands c = not-false _ c.if-not-may_stand.false-raw
 
-placed : (c : tie.Else1) → let a = c.before.before.before.args in (a.x ≤ a.n + 1) × (a.y ≤ a.m + 1)
-placed c = stands_within c.before.before.before.args.kind _ _ _ _ (sym c.before.may-stand.ensures ∙ stands c)
+placed : (c : tie.Else-not-may_stand) → let a = c.before.before.before.args in (a.x ≤ a.n + 1) × (a.y ≤ a.m + 1)
+placed c = stands_within c.before.before.before.args.kind _ _ _ _ (sym c.before.may_stand.ensures ∙ stands c)
 
-fits : (c : tie.Else3) → let a = c.before.before.before.before.before.before.before.before.args in is_value a.kind a.v ≡ true
-fits c = sym c.before.may_write_lem.ensures ∙ not-false _ c.if3.false
+fits : (c : tie.Else-not-may_write) → let a = c.before.before.before.before.before.before.before.before.args in is_value a.kind a.v ≡ true
+fits c = sym c.before.may_write.ensures ∙ not-false _ c.if-not-may_write.false-raw
 
-small : (c : tie.Else3) → c.before.before.before.before.before.before.before.before.args.v ≤ 4
+small : (c : tie.Else-not-may_write) → c.before.before.before.before.before.before.before.before.args.v ≤ 4
 small c = value_low c.before.before.before.before.before.before.before.before.args.kind _ (fits c)
 
 -- what is left after the first three tests
 left-to-order :
-    (c : tie.Else3) →
+    (c : tie.Else-not-may_write) →
     let a = c.before.before.before.before.before.before.before.before.args in
     marked a.kind a.n a.m a.at a.before a.x a.y a.v a.next a.b.now
     ≡ mark_in_order a.at a.before (position a.x a.y) a.v a.next a.b.now
 left-to-order c =
-    let e = c.before.before in
-    let d = e.before.before.before in
-    let a = d.before.before.before.args in
+    let a = c.before.before.before.before.before.before.before.before.args in
     marked_in_order a.kind a.n a.m a.at a.before a.x a.y a.v a.next a.b.now
-    (sym d.before.may-stand.ensures ∙ stands d) (sym e.before.is-repeated.ensures ∙ e.if2.false) (fits c)
+    (sym c.before.before.before.before.before.before.may_stand.ensures ∙ stands c.before.before.before.before.before) (sym c.before.before.before.is_repeated-repeated.ensures ∙ c.before.before.if-repeated.false) (fits c)
 
-may-stand-requires : tie.Need-may-stand-requires
+may-stand-requires : tie.Need-may_stand-requires
 may-stand-requires c κs = search rules
 
-off-number-requires : tie.Need-off-number-requires
+off-number-requires : tie.Need-off_number-requires
 off-number-requires c κs = search rules
 
-no-record-requires : tie.Need-no-record-requires
+no-record-requires : tie.Need-no_record-requires
 no-record-requires c κs = search rules
 
-returns : tie.Need-returns
+returns : tie.Need-returns-then-not-may_stand
 returns c =
     rw (c.no_record.ensures, c.before.off_number.ensures)
-    (sym (cond_left _ _ c.before.before.before.may-stand.ensures (not-true _ c.before.before.if1.true)))
+    (sym (cond_left _ _ c.before.before.before.may_stand.ensures (not-true _ c.before.before.if-not-may_stand.true-raw)))
 
-mul-p : tie.Need-overflow-mul-p
+mul-p : tie.Need-overflow_mul-p
 mul-p c =
     let w = placed c in omega arith
 
-add-p : tie.Need-overflow-add-p
+add-p : tie.Need-overflow_add-p
 add-p c =
     let w = placed c in omega arith
 
-slice-read-is-repeated : tie.Need-slice-read-is-repeated
+slice-read-is-repeated : tie.Need-bounds-b-p
 slice-read-is-repeated c =
     let w = placed c.before in omega arith
 
-is-repeated-requires : tie.Need-is-repeated-requires
+is-repeated-requires : tie.Need-is_repeated-repeated-requires
 is-repeated-requires c κs = search rules
 
-no-record-requires-2 : tie.Need-no-record-requires-2
+no-record-requires-2 : tie.Need-no_record-requires-then-repeated
 no-record-requires-2 c κs = search rules
 
-returns-2 : tie.Need-returns-2
+returns-2 : tie.Need-returns-then-repeated
 returns-2 c =
-    let d = c.before.before.before.before in
-    rw c.no-record2.ensures
+    rw c.no_record-then-repeated.ensures
     (sym
-    (cond_taken _ _ d.before.may-stand.ensures (stands d)
-    ∙ cond_taken _ _ c.before.before.is-repeated.ensures c.before.if2.true))
+    (cond_taken _ _ c.before.before.before.before.before.may_stand.ensures (stands c.before.before.before.before)
+    ∙ cond_taken _ _ c.before.before.is_repeated-repeated.ensures c.before.if-repeated.true))
 
-may-write-requires : tie.Need-may-write-requires
+may-write-requires : tie.Need-may_write-requires
 may-write-requires c κs = search rules
 
-no-record-requires-3 : tie.Need-no-record-requires-3
+no-record-requires-3 : tie.Need-no_record-requires-then-not-may_write
 no-record-requires-3 c κs = search rules
 
-returns-3 : tie.Need-returns-3
+returns-3 : tie.Need-returns-then-not-may_write
 returns-3 c =
-    let e = c.before.before.before in
-    let d = e.before.before.before in
-    rw c.no-record3.ensures
+    rw c.no_record-then-not-may_write.ensures
     (sym
-    (cond_taken _ _ d.before.may-stand.ensures (stands d)
-    ∙ cond_left _ _ e.before.is-repeated.ensures e.if2.false
-    ∙ cond_left _ _ c.before.before.may_write_lem.ensures (not-true _ c.before.if3.true)))
+    (cond_taken _ _ c.before.before.before.before.before.before.before.may_stand.ensures (stands c.before.before.before.before.before.before)
+    ∙ cond_left _ _ c.before.before.before.before.is_repeated-repeated.ensures c.before.before.before.if-repeated.false
+    ∙ cond_left _ _ c.before.before.may_write.ensures (not-true _ c.before.if-not-may_write.true-raw)))
 
-no-record-requires-4 : tie.Need-no-record-requires-4
+no-record-requires-4 : tie.Need-no_record-requires-then-lower
 no-record-requires-4 c κs = search rules
 
-returns-4 : tie.Need-returns-4
+returns-4 : tie.Need-returns-then-lower
 returns-4 c =
-    rw c.no-record4.ensures (sym (left-to-order c.before.before ∙ cond_taken _ _ refl c.before.if4.true))
+    rw c.no_record-then-lower.ensures (sym (left-to-order c.before.before ∙ cond_taken _ _ refl c.before.if-lower.true-raw))
 
-cast-b : tie.Need-overflow-cast-b
+cast-b : tie.Need-overflow_cast-b
 cast-b c =
     let w = small c.before in omega arith
 
-slice-write-b : tie.Need-slice-write-b
+slice-write-b : tie.Need-bounds-b-p-2
 slice-write-b c =
     let w = placed c.before.before.before.before.before.before in omega arith
 
-same_length : tie.Need-same-length
+same_length : tie.Need-shape_of-b
 same_length c = search rules
 
-returns-5 : tie.Need-returns-5
+returns-5 : tie.Need-returns
 returns-5 c =
-    sym (left-to-order c.before ∙ cond_left _ _ refl c.if4.false)
+    sym (left-to-order c.before ∙ cond_left _ _ refl c.if-lower.false-raw)
 
-pub mark-one-spec : {M : Type 1} → statement M
-mark-one-spec =
+pub mark_one_spec : {M : Type 1} → statement M
+mark_one_spec =
     tie.close
     (tie.spec
     may-stand-requires

@@ -4,23 +4,23 @@ use borrow.Author.Rules.{rules}
 use Rattle.readers.proofs.may_write.Statement.{statement}
 use Rattle.readers.proofs.may_write.Tie as tie
 
-enum_told : tie.Need-enum-told
+enum_told : tie.Need-enum_told-1
 enum_told c = search rules
 
-enum-told-2 : tie.Need-enum-told-2
+enum-told-2 : tie.Need-enum_told-in-Dead
 enum-told-2 c = search rules
 
-enum-told-3 : tie.Need-enum-told-3
+enum-told-3 : tie.Need-enum_told-in-Path
 enum-told-3 c = search rules
 
-returns : tie.Need-returns
-returns c = rw c.enum_told.given.1
+returns : tie.Need-returns-in-Fault
+returns c = rw c.in-Fault.is
 
-returns-2 : tie.Need-returns-2
-returns-2 c = rw c.enum-told2.given.1
+returns-2 : tie.Need-returns-in-Dead
+returns-2 c = rw c.in-Dead.is
 
-returns-3 : tie.Need-returns-3
-returns-3 c = rw c.enum-told3.given.1
+returns-3 : tie.Need-returns-in-Path
+returns-3 c = rw c.in-Path.is
 
-pub may-write-spec : {M : Type 1} → statement M
-may-write-spec = tie.close (tie.spec enum_told enum-told-2 enum-told-3 returns returns-2 returns-3)
+pub may_write_spec : {M : Type 1} → statement M
+may_write_spec = tie.close (tie.spec enum_told enum-told-2 enum-told-3 returns returns-2 returns-3)

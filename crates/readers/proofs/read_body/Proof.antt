@@ -7,52 +7,49 @@ use borrow.Author.Rules.{rules}
 use Rattle.readers.proofs.read_body.Statement.{statement}
 use Rattle.readers.proofs.read_body.Tie as tie
 
-blank-buffer-requires : tie.Need-blank-buffer-requires
+blank-buffer-requires : tie.Need-blank_buffer-b-requires
 blank-buffer-requires c κs = search rules
 
-first-list-requires : tie.Need-first-list-requires
+first-list-requires : tie.Need-first_list-first-requires
 first-list-requires c κs = search rules
 
-slice-aggregate-read-records : tie.Need-slice-aggregate-read-records
+slice-aggregate-read-records : tie.Need-slice_bounds-read_records-end
 slice-aggregate-read-records c = search rules
 
-read-records-requires : tie.Need-read-records-requires
+read-records-requires : tie.Need-read_records-requires
 read-records-requires c κs = search rules
 
-enum-known-end : tie.Need-enum-known-end
+enum-known-end : tie.Need-enum_known-end
 enum-known-end c = search rules
 
-read-rest-requires : tie.Need-read-rest-requires
+read-rest-requires : tie.Need-read_rest-requires
 read-rest-requires c κs = search rules
 
-enum-known-r : tie.Need-enum-known-r
+enum-known-r : tie.Need-enum_known-r
 enum-known-r c = search rules
 
-same_length : tie.Need-same-length
+same_length : tie.Need-shape_of-lent
 same_length c = search rules
 
-returns : tie.Need-returns
+returns : tie.Need-returns-in-Next
 returns c =
-    let e = c.before.before.before.before.before in
-    let r = e.before.before.before in
-    let a = r.before.before.before.before.before.before.args in
-    c.before.before.read-rest.ensures e.end.given.0.1.0
+    let a = c.before.before.before.before.before.before.before.before.before.before.before.before.args in
+    c.before.before.read_rest.ensures c.before.before.before.before.in-Next.field-1
     ∙ ap (rest_at a.kind a.s.now a.head a.lent.now)
-    (rw (e.end.given.1, r.before.before.first_list.ensures, r.before.before.before.blank-buffer.ensures) at
-    r.read-records.ensures)
+    (rw (c.before.before.before.before.in-Next.is, c.before.before.before.before.before.before.before.before.first_list-first.ensures, c.before.before.before.before.before.before.before.before.before.blank_buffer-b.ensures) at
+    c.before.before.before.before.before.before.read_records.ensures)
 
-returns-2 : tie.Need-returns-2
+returns-2 : tie.Need-returns-in-Refused
 returns-2 c =
-    let r = c.before.before.before.before in
-    let a = r.before.before.before.before.before.before.args in
+    let a = c.before.before.before.before.before.before.before.before.args in
     sym
     (rest_refused a.s.now a.head a.lent.now a.kind _ _
     (sym
-    (rw (c.before.r.given.1, r.before.before.first_list.ensures, r.before.before.before.blank-buffer.ensures) at
-    r.read-records.ensures)))
+    (rw (c.in-Refused.is, c.before.before.before.before.first_list-first.ensures, c.before.before.before.before.before.blank_buffer-b.ensures) at
+    c.before.before.read_records.ensures)))
 
-pub read-body-spec : {M : Type 1} → statement M
-read-body-spec =
+pub read_body_spec : {M : Type 1} → statement M
+read_body_spec =
     tie.close
     (tie.spec
     blank-buffer-requires

@@ -7,36 +7,35 @@ use borrow.Author.Rules.{rules}
 use Rattle.readers.proofs.read_dead.Statement.{statement}
 use Rattle.readers.proofs.read_dead.Tie as tie
 
-slice-aggregate-read-records : tie.Need-slice-aggregate-read-records
+slice-aggregate-read-records : tie.Need-slice_bounds-read_records-end
 slice-aggregate-read-records c = search rules
 
-read-records-requires : tie.Need-read-records-requires
+read-records-requires : tie.Need-read_records-requires
 read-records-requires c κs = search rules
 
-enum-known-end : tie.Need-enum-known-end
+enum-known-end : tie.Need-enum_known-end
 enum-known-end c = search rules
 
 fill-requires : tie.Need-fill-requires
 fill-requires c κs = search rules
 
-enum-known-r : tie.Need-enum-known-r
+enum-known-r : tie.Need-enum_known-r
 enum-known-r c = search rules
 
-same_length : tie.Need-same-length
+same_length : tie.Need-shape_of-lent
 same_length c = search rules
 
-returns : tie.Need-returns
+returns : tie.Need-returns-in-Next
 returns c =
-    let e = c.before.before.before.before.before in
-    c.before.before.fill.ensures e.end.given.0.1.0
-    ∙ ap (whole_file _ _ _ _) (rw e.end.given.1 at e.before.before.before.read-records.ensures)
+    c.before.before.fill.ensures c.before.before.before.before.in-Next.field-1
+    ∙ ap (whole_file _ _ _ _) (rw c.before.before.before.before.in-Next.is at c.before.before.before.before.before.before.read_records.ensures)
 
-returns-2 : tie.Need-returns-2
+returns-2 : tie.Need-returns-in-Refused
 returns-2 c =
-    sym (whole_refused _ _ _ _ _ _ (sym (rw c.before.r.given.1 at c.before.before.before.before.read-records.ensures)))
+    sym (whole_refused _ _ _ _ _ _ (sym (rw c.in-Refused.is at c.before.before.read_records.ensures)))
 
-pub read-dead-spec : {M : Type 1} → statement M
-read-dead-spec =
+pub read_dead_spec : {M : Type 1} → statement M
+read_dead_spec =
     tie.close
     (tie.spec
     slice-aggregate-read-records

@@ -9,13 +9,13 @@ use borrow.Author.Rules.{rules}
 use Rattle.readers.proofs.read_map.Statement.{statement}
 use Rattle.readers.proofs.read_map.Tie as tie
 
-read-file-requires : tie.Need-read-file-requires
+read-file-requires : tie.Need-read_file-requires
 read-file-requires c κs = search rules
 
-map-of-requires : tie.Need-map-of-requires
+map-of-requires : tie.Need-map_of-requires
 map-of-requires c κs = search rules
 
-same_length : tie.Need-same-length
+same_length : tie.Need-shape_of-grid
 same_length c = search rules
 
 returns : tie.Need-returns
@@ -25,5 +25,5 @@ returns c =
       ap (λ (x : FileRead × List ℕ). x.1) e,
     )
 
-pub read-map-spec : {M : Type 1} → statement M
-read-map-spec = tie.close (tie.spec read-file-requires map-of-requires same_length returns)
+pub read_map_spec : {M : Type 1} → statement M
+read_map_spec = tie.close (tie.spec read-file-requires map-of-requires same_length returns)

@@ -12,103 +12,97 @@ use Rattle.readers.proofs.read_record.Tie as tie
 
 -- what the numbers of the record are
 row_is :
-    (c : tie.After-a) →
-    let a = c.before.before.before.before.before.args in
-    number_at a.s.now a.at ≡ Read c.a.given.0.0 c.a.given.0.1.0
-row_is c = sym (number_kept _ _ c.before.before.read_number.ensures) ∙ c.a.given.1
+    (c : tie.In-Read) →
+    let a = c.args in
+    number_at a.s.now a.at ≡ Read c.in-Read.x c.in-Read.second
+row_is c = sym (number_kept _ _ c.read_number-a.ensures) ∙ c.in-Read.is
 
 column_is :
-    (c : tie.After-d) →
-    let a = c.before.before.before.before in
-    number_at a.before.before.before.before.before.args.s.now a.a.given.0.1.0 ≡ Read c.d.given.0.0 c.d.given.0.1.0
-column_is c = sym (number_kept _ _ c.before.before.read-number2.ensures) ∙ c.d.given.1
+    (c : tie.In-Read-d) →
+    number_at c.args.s.now c.in-Read.second ≡ Read c.in-Read-d.y c.in-Read-d.third
+column_is c = sym (number_kept _ _ c.read_number-d.ensures) ∙ c.in-Read-d.is
 
 value-is :
-    (c : tie.After-e) →
-    let a = c.before.before.before.before.before.before.before.before.before.before.before.before.before.args in
-    value_at a.kind a.s.now c.before.before.before.before.d.given.0.1.0 ≡ Read c.e.given.0.0 c.e.given.0.1.0
-value-is c = sym c.before.before.read-value.ensures ∙ c.e.given.1
+    (c : tie.In-Read-e) →
+    let a = c.args in
+    value_at a.kind a.s.now c.in-Read-d.third ≡ Read c.in-Read-e.v c.in-Read-e.next
+value-is c = sym c.read_value-e.ensures ∙ c.in-Read-e.is
 
-read-number-requires : tie.Need-read-number-requires
+read-number-requires : tie.Need-read_number-a-requires
 read-number-requires c κs = search rules
 
-enum-known-a : tie.Need-enum-known-a
+enum-known-a : tie.Need-enum_known-a
 enum-known-a c = search rules
 
-enum_told : tie.Need-enum-told
+enum_told : tie.Need-enum_told-1
 enum_told c = search rules
 
-refusal-of-requires : tie.Need-refusal-of-requires
+refusal-of-requires : tie.Need-refusal_of-requires
 refusal-of-requires c κs = search rules
 
-returns : tie.Need-returns
+returns : tie.Need-returns-in_default
 returns c =
-    rw (c.refusal_of.ensures, c.before.enum_told.given.1)
-    (sym (no_row _ _ _ _ _ _ _ _ (sym (number_kept _ _ c.before.before.before.read_number.ensures) ∙ c.before.enum_told.given.1)))
+    rw (c.refusal_of.ensures, c.before.in_default.is)
+    (sym (no_row _ _ _ _ _ _ _ _ (sym (number_kept _ _ c.read_number-a.ensures) ∙ c.before.in_default.is)))
 
-read-number-requires-2 : tie.Need-read-number-requires-2
+read-number-requires-2 : tie.Need-read_number-d-requires
 read-number-requires-2 c κs = search rules
 
-enum-known-d : tie.Need-enum-known-d
+enum-known-d : tie.Need-enum_known-d
 enum-known-d c = search rules
 
-enum-told-2 : tie.Need-enum-told-2
+enum-told-2 : tie.Need-enum_told-in_default-d
 enum-told-2 c = search rules
 
-refusal-of-requires-2 : tie.Need-refusal-of-requires-2
+refusal-of-requires-2 : tie.Need-refusal_of-requires-in_default-d
 refusal-of-requires-2 c κs = search rules
 
-returns-2 : tie.Need-returns-2
+returns-2 : tie.Need-returns-in_default-d
 returns-2 c =
-    let a = c.before.before.before.before.before in
-    rw (c.refusal-of2.ensures, c.before.enum-told2.given.1)
+    rw (c.refusal_of-in_default-d.ensures, c.before.in_default-d.is)
     (sym
-    (no_column _ _ _ _ _ _ _ _ (row_is a) _ _
-    (sym (number_kept _ _ c.before.before.before.read-number2.ensures) ∙ c.before.enum-told2.given.1)))
+    (no_column _ _ _ _ _ _ _ _ (row_is c.before.before.before) _ _
+    (sym (number_kept _ _ c.read_number-d.ensures) ∙ c.before.in_default-d.is)))
 
-read-value-requires : tie.Need-read-value-requires
+read-value-requires : tie.Need-read_value-e-requires
 read-value-requires c κs = search rules
 
-enum-known-e : tie.Need-enum-known-e
+enum-known-e : tie.Need-enum_known-e
 enum-known-e c = search rules
 
-enum-told-3 : tie.Need-enum-told-3
+enum-told-3 : tie.Need-enum_told-in_default-e
 enum-told-3 c = search rules
 
-refusal-of-requires-3 : tie.Need-refusal-of-requires-3
+refusal-of-requires-3 : tie.Need-refusal_of-requires-in_default-e
 refusal-of-requires-3 c κs = search rules
 
-returns-3 : tie.Need-returns-3
+returns-3 : tie.Need-returns-in_default-e
 returns-3 c =
-    let d = c.before.before.before.before.before in
-    rw (c.refusal-of3.ensures, c.before.enum-told3.given.1)
+    rw (c.refusal_of-in_default-e.ensures, c.before.in_default-e.is)
     (sym
-    (no_value _ _ _ _ _ _ _ _ (row_is d.before.before.before.before) _ _ (column_is d) _ _
-    (sym c.before.before.before.read-value.ensures ∙ c.before.enum-told3.given.1)))
+    (no_value _ _ _ _ _ _ _ _ (row_is c.before.before.before.before.before) _ _ (column_is c.before.before.before) _ _
+    (sym c.read_value-e.ensures ∙ c.before.in_default-e.is)))
 
-cast-mark : tie.Need-overflow-cast-mark
+cast-mark : tie.Need-overflow_cast-x
 cast-mark c = search rules
 
-cast-mark-2 : tie.Need-overflow-cast-mark-2
+cast-mark-2 : tie.Need-overflow_cast-y
 cast-mark-2 c = search rules
 
 mark-requires : tie.Need-mark-requires
 mark-requires c κs = search rules
 
-same_length : tie.Need-same-length
+same_length : tie.Need-shape_of-b
 same_length c = search rules
 
-returns-4 : tie.Need-returns-4
+returns-4 : tie.Need-returns
 returns-4 c =
-    let e = c.before.before.before.before.before in
-    let d = e.before.before.before.before in
-    let a = d.before.before.before.before in
-    let p = a.before.before.before.before.before.requires in
+    let p = c.before.before.before.before.before.before.before.before.before.before.before.before.requires in
     c.before.before.mark.ensures
-    ∙ sym (record_marked _ _ _ _ _ _ _ _ (row_is a) _ _ (column_is d) (p.0, p.1) p.2 _ _ _ (value-is e))
+    ∙ sym (record_marked _ _ _ _ _ _ _ _ (row_is c.before.before.before.before.before.before.before.before) _ _ (column_is c.before.before.before.before.before.before) (p.0, p.1) p.2 _ _ _ (value-is c.before.before.before.before))
 
-pub read-record-spec : {M : Type 1} → statement M
-read-record-spec =
+pub read_record_spec : {M : Type 1} → statement M
+read_record_spec =
     tie.close
     (tie.spec
     read-number-requires

@@ -11,75 +11,72 @@ use Rattle.readers.proofs.read_second.Tie as tie
 
 -- what the second count is
 more-is :
-    (c : tie.After-a) →
-    let a = c.before.before.before.before.before.before.args in
-    number_at a.s.now a.end ≡ Read c.a.given.0.0 c.a.given.0.1.0
-more-is c = sym (number_kept _ _ c.before.before.read_number.ensures) ∙ c.a.given.1
+    (c : tie.In-Read) →
+    let a = c.args in
+    number_at a.s.now a.end ≡ Read c.in-Read.more c.in-Read.start
+more-is c = sym (number_kept _ _ c.read_number-a.ensures) ∙ c.in-Read.is
 
 copy-requires : tie.Need-copy-requires
 copy-requires c κs = search rules
 
-same_length : tie.Need-same-length
+same_length : tie.Need-shape_of-lent-then-s-end
 same_length c = search rules
 
-returns : tie.Need-returns
+returns : tie.Need-returns-then-s-end
 returns c = λ p.
-    let a = c.before.before.before.before.before.before.before.args in
+    let a = c.args in
     rw c.before.before.copy.ensures
-    (sym (second_none a.s.now a.head a.lent.now a.end p a.grid c.before.before.before.before.if1.true))
+    (sym (second_none a.s.now a.head a.lent.now a.end p a.grid c.before.before.before.before.if-s-end.true))
 
-read-number-requires : tie.Need-read-number-requires
+read-number-requires : tie.Need-read_number-a-requires
 read-number-requires c κs = search rules
 
-enum-known-a : tie.Need-enum-known-a
+enum-known-a : tie.Need-enum_known-a
 enum-known-a c = search rules
 
-enum_told : tie.Need-enum-told
+enum_told : tie.Need-enum_told-1
 enum_told c = search rules
 
-refusal-of-requires : tie.Need-refusal-of-requires
+refusal-of-requires : tie.Need-refusal_of-requires
 refusal-of-requires c κs = search rules
 
-returns-2 : tie.Need-returns-2
+returns-2 : tie.Need-returns-in_default
 returns-2 c = λ p.
-    let a = c.before.before.before.before.before.before.before.args in
-    rw (c.refusal_of.ensures, c.before.enum_told.given.1)
-    (sym (second_cut a.s.now a.head a.lent.now a.end p a.grid c.before.before.before.before.if1.false _
-    (sym (number_kept _ _ c.before.before.before.read_number.ensures) ∙ c.before.enum_told.given.1)))
+    let a = c.args in
+    rw (c.refusal_of.ensures, c.before.in_default.is)
+    (sym (second_cut a.s.now a.head a.lent.now a.end p a.grid c.before.before.before.if-s-end.false _
+    (sym (number_kept _ _ c.read_number-a.ensures) ∙ c.before.in_default.is)))
 
-returns-3 : tie.Need-returns-3
+returns-3 : tie.Need-returns-then-more-eq0
 returns-3 c = λ p.
-    let d = c.before.before in
-    let a = d.before.before.before.before.before.before.args in
-    sym (second_zero a.s.now a.head a.lent.now a.end p a.grid d.before.before.before.if1.false _ _ (more-is d)
-    c.if2.true)
+    let a = c.args in
+    sym (second_zero a.s.now a.head a.lent.now a.end p a.grid c.before.before.before.if-s-end.false _ _ (more-is c.before)
+    c.if-more-eq0.true)
 
-cast-t10 : tie.Need-overflow-cast-t10
+cast-t10 : tie.Need-overflow_cast-both
 cast-t10 c = search rules
 
-add-t17 : tie.Need-overflow-add-t17
+add-t17 : tie.Need-overflow_add-both
 add-t17 c = search rules
 
-cast-read-dead : tie.Need-overflow-cast-read-dead
+cast-read-dead : tie.Need-overflow_cast-more
 cast-read-dead c = search rules
 
-read-dead-requires : tie.Need-read-dead-requires
+read-dead-requires : tie.Need-read_dead-requires
 read-dead-requires c κs = search rules
 
-same-length-2 : tie.Need-same-length-2
+same-length-2 : tie.Need-shape_of-lent
 same-length-2 c = search rules
 
-returns-4 : tie.Need-returns-4
+returns-4 : tie.Need-returns
 returns-4 c = λ p.
-    let e = c.before.before.before.before.before in
-    let d = e.before.before in
-    let a = d.before.before.before.before.before.before.args in
-    c.before.before.read-dead.ensures
-    ∙ sym (second_some a.s.now a.head a.lent.now a.end p a.grid d.before.before.before.if1.false _ _ (more-is d)
-    e.if2.false)
+    let a = c.args in
+    c.before.before.read_dead.ensures
+    ∙ sym (second_some a.s.now a.head a.lent.now a.end p a.grid c.before.before.before.before.before.before.before.before.if-s-end.false _ _ (more-is c.before.before.before.before.before.before)
+    c.before.before.before.before.before.if-more-eq0.false)
 
-pub read-second-spec : {M : Type 1} → statement M
-read-second-spec =
+pub read_second_spec : {M : Type 1} → statement M
+read_second_spec =
     tie.close
     (tie.spec
     copy-requires

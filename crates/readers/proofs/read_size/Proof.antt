@@ -7,40 +7,40 @@ use borrow.Author.Rules.{rules}
 use Rattle.readers.proofs.read_size.Statement.{statement}
 use Rattle.readers.proofs.read_size.Tie as tie
 
-read-number-requires : tie.Need-read-number-requires
+read-number-requires : tie.Need-read_number-a-requires
 read-number-requires c κs = search rules
 
-enum-known-a : tie.Need-enum-known-a
+enum-known-a : tie.Need-enum_known-a
 enum-known-a c = search rules
 
-enum_told : tie.Need-enum-told
+enum_told : tie.Need-enum_told-1
 enum_told c = search rules
 
-returns : tie.Need-returns
+returns : tie.Need-returns-in_default
 returns c =
-    c.enum_told.given.1 ∙ sym
-    (size_refused _ _ _ (sym (number_kept _ _ c.before.before.read_number.ensures) ∙ c.enum_told.given.1))
+    c.in_default.is ∙ sym
+    (size_refused _ _ _ (sym (number_kept _ _ c.before.read_number-a.ensures) ∙ c.in_default.is))
 
-cast-is-size : tie.Need-overflow-cast-is-size
+cast-is-size : tie.Need-overflow_cast-v
 cast-is-size c = search rules
 
-is-size-requires : tie.Need-is-size-requires
+is-size-requires : tie.Need-is_size-requires
 is-size-requires c κs = search rules
 
-returns-2 : tie.Need-returns-2
+returns-2 : tie.Need-returns-then-is_size
 returns-2 c =
     sym (size_good _ _ _ _
-    (sym (number_kept _ _ c.before.before.before.before.before.read_number.ensures) ∙ c.before.before.before.a.given.1)
-    (sym c.before.is-size.ensures ∙ c.if1.true))
+    (sym (number_kept _ _ c.before.before.before.read_number-a.ensures) ∙ c.before.before.in-Read.is)
+    (sym c.before.is_size.ensures ∙ c.if-is_size.true))
 
-returns-3 : tie.Need-returns-3
+returns-3 : tie.Need-returns
 returns-3 c =
     sym (size_bad _ _ _ _
-    (sym (number_kept _ _ c.before.before.before.before.before.read_number.ensures) ∙ c.before.before.before.a.given.1)
-    (sym c.before.is-size.ensures ∙ c.if1.false))
+    (sym (number_kept _ _ c.before.before.before.read_number-a.ensures) ∙ c.before.before.in-Read.is)
+    (sym c.before.is_size.ensures ∙ c.if-is_size.false))
 
-pub read-size-spec : {M : Type 1} → statement M
-read-size-spec =
+pub read_size_spec : {M : Type 1} → statement M
+read_size_spec =
     tie.close
     (tie.spec
     read-number-requires

@@ -7,41 +7,40 @@ use borrow.Author.Rules.{rules}
 use Rattle.readers.proofs.read_trials.Statement.{statement}
 use Rattle.readers.proofs.read_trials.Tie as tie
 
-read-number-requires : tie.Need-read-number-requires
+read-number-requires : tie.Need-read_number-a-requires
 read-number-requires c κs = search rules
 
-enum-known-a : tie.Need-enum-known-a
+enum-known-a : tie.Need-enum_known-a
 enum-known-a c = search rules
 
-enum_told : tie.Need-enum-told
+enum_told : tie.Need-enum_told-1
 enum_told c = search rules
 
-refusal-of-requires : tie.Need-refusal-of-requires
+refusal-of-requires : tie.Need-refusal_of-requires
 refusal-of-requires c κs = search rules
 
-returns : tie.Need-returns
+returns : tie.Need-returns-in_default
 returns c = λ p.
-    let a = c.before.before.before.before.before.before.args in
-    rw (c.refusal_of.ensures, c.before.enum_told.given.1)
+    let a = c.before.before.before.before.before.args in
+    rw (c.refusal_of.ensures, c.before.in_default.is)
     (sym (trials_cut a.s.now a.head a.lent.now a.at p a.directions _
-    (sym (number_kept _ _ c.before.before.before.read_number.ensures) ∙ c.before.enum_told.given.1)))
+    (sym (number_kept _ _ c.before.before.read_number-a.ensures) ∙ c.before.in_default.is)))
 
 fill-requires : tie.Need-fill-requires
 fill-requires c κs = search rules
 
-same_length : tie.Need-same-length
+same_length : tie.Need-shape_of-lent
 same_length c = search rules
 
-returns-2 : tie.Need-returns-2
+returns-2 : tie.Need-returns
 returns-2 c = λ p.
-    let d = c.before.before.before.before.before in
-    let a = d.before.before.before.before.before.args in
+    let a = c.before.before.before.before.before.before.before.before.args in
     c.before.before.fill.ensures p
     ∙ sym (trials_some a.s.now a.head a.lent.now a.at p a.directions _ _
-    (sym (number_kept _ _ d.before.before.read_number.ensures) ∙ d.a.given.1))
+    (sym (number_kept _ _ c.before.before.before.before.before.read_number-a.ensures) ∙ c.before.before.before.before.in-Read.is))
 
-pub read-trials-spec : {M : Type 1} → statement M
-read-trials-spec =
+pub read_trials_spec : {M : Type 1} → statement M
+read_trials_spec =
     tie.close
     (tie.spec
     read-number-requires

@@ -5,28 +5,28 @@ use borrow.Author.Rules.{rules}
 use Rattle.readers.proofs.read_value.Statement.{statement}
 use Rattle.readers.proofs.read_value.Tie as tie
 
-enum_told : tie.Need-enum-told
+enum_told : tie.Need-enum_told-1
 enum_told c = search rules
 
-enum-told-2 : tie.Need-enum-told-2
+enum-told-2 : tie.Need-enum_told-in-Dead
 enum-told-2 c = search rules
 
-enum-told-3 : tie.Need-enum-told-3
+enum-told-3 : tie.Need-enum_told-in-Path
 enum-told-3 c = search rules
 
-read-number-requires : tie.Need-read-number-requires
+read-number-requires : tie.Need-read_number-requires
 read-number-requires c κs = search rules
 
-returns : tie.Need-returns
-returns c = rw c.enum_told.given.1
+returns : tie.Need-returns-in-Fault
+returns c = rw c.in-Fault.is
 
-returns-2 : tie.Need-returns-2
-returns-2 c = rw c.enum-told2.given.1
+returns-2 : tie.Need-returns-in-Dead
+returns-2 c = rw c.in-Dead.is
 
-returns-3 : tie.Need-returns-3
-returns-3 c = rw c.before.enum-told3.given.1 (number_kept _ _ c.read_number.ensures)
+returns-3 : tie.Need-returns-in-Path
+returns-3 c = rw c.before.in-Path.is (number_kept _ _ c.read_number.ensures)
 
-pub read-value-spec : {M : Type 1} → statement M
-read-value-spec =
+pub read_value_spec : {M : Type 1} → statement M
+read_value_spec =
     tie.close
     (tie.spec enum_told enum-told-2 enum-told-3 read-number-requires returns returns-2 returns-3)

@@ -11,29 +11,29 @@ use borrow.Author.Rules.{rules}
 use Rattle.writers.proofs.check_buffer.Statement.{statement}
 use Rattle.writers.proofs.check_buffer.Tie as tie
 
-enum_told : tie.Need-enum-told
+enum_told : tie.Need-enum_told-1
 enum_told c = search rules
 
-check-map-requires : tie.Need-check-map-requires
+check-map-requires : tie.Need-check_map-requires
 check-map-requires c κs = λ h. eqb-true _ _ h
 
-enum-told-2 : tie.Need-enum-told-2
+enum-told-2 : tie.Need-enum_told-in-Plan
 enum-told-2 c = search rules
 
-check-without-grid-requires : tie.Need-check-without-grid-requires
+check-without-grid-requires : tie.Need-check_without_grid-requires
 check-without-grid-requires c κs = search rules
 
-returns : tie.Need-returns
+returns : tie.Need-returns-in-Map
 unfolding buffer_test
 returns c =
-    let a = c.before.before.before.before.args in
-    rw c.before.enum_told.given.1
-    (c.check-map.ensures ∙ ap (λ (z : Bool). map_tests a.n a.m z a.b.now) (sym (and_one (long a.b.now))))
+    let a = c.before.before.before.args in
+    rw c.before.in-Map.is
+    (c.check_map.ensures ∙ ap (λ (z : Bool). map_tests a.n a.m z a.b.now) (sym (and_one (long a.b.now))))
 
-returns-2 : tie.Need-returns-2
-returns-2 c = rw c.before.enum-told2.given.1 c.check-without-grid.ensures
+returns-2 : tie.Need-returns-in-Plan
+returns-2 c = rw c.before.in-Plan.is c.check_without_grid.ensures
 
-pub check-buffer-spec : {M : Type 1} → statement M
-check-buffer-spec =
+pub check_buffer_spec : {M : Type 1} → statement M
+check_buffer_spec =
     tie.close
     (tie.spec enum_told check-map-requires enum-told-2 check-without-grid-requires returns returns-2)

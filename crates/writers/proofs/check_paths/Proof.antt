@@ -12,48 +12,48 @@ use borrow.Author.Rules.{rules}
 use Rattle.writers.proofs.check_paths.Statement.{statement}
 use Rattle.writers.proofs.check_paths.Tie as tie
 
-abbrev invariant-loop : tie.invariant-loop
+abbrev invariant-loop : tie.invariant-loop-p
 invariant-loop n m directions p₀ p =
     Seeking (element_test (path_test n m) directions) (from_position (path_test n m) directions) (length directions) p
     (first_in (path_test n m) directions)
 
-abbrev decreases-loop : tie.decreases-loop
+abbrev decreases-loop : tie.decreases-loop-p
 decreases-loop n m directions p₀ p = 1024 - p
 
-loop-holds : tie.Need-loop-init invariant-loop decreases-loop
+loop-holds : tie.Need-loop-p-init invariant-loop decreases-loop
 loop-holds c = seek_start (buffer_scan _ _) 0 (omega arith)
 
-shared-slice-read-d : tie.Need-shared-slice-read-d invariant-loop decreases-loop
+shared-slice-read-d : tie.Need-bounds-directions-p invariant-loop decreases-loop
 shared-slice-read-d c = omega arith
 
-is-inner-requires : tie.Need-is-inner-requires invariant-loop decreases-loop
+is-inner-requires : tie.Need-is_inner-requires invariant-loop decreases-loop
 is-inner-requires c κs = search rules
 
-returns : tie.Need-returns invariant-loop decreases-loop
+returns : tie.Need-returns-then-d-is_inner invariant-loop decreases-loop
 returns c =
     let a = c.before.before.before.before.before.before.args in
-    let p = c.before.before.before.before.loop.p in
-    seek_stop_if c.before.before.before.before.loop.invariant 4 p 0 (omega arith) refl
-    (path_tested a.n a.m p (get_or a.directions.now p 0) c.before.is-inner.ensures) c.if1.true
+    let p = c.before.before.before.before.loop-p.p in
+    seek_stop_if c.before.before.before.before.loop-p.invariant 4 p 0 (omega arith) refl
+    (path_tested a.n a.m p (get_or a.directions.now p 0) c.before.is_inner.ensures) c.if-d-is_inner.true
 
-add-p : tie.Need-overflow-add-p invariant-loop decreases-loop
+add-p : tie.Need-overflow_step-p invariant-loop decreases-loop
 add-p c = omega arith
 
-loop-less : tie.Need-loop-smaller invariant-loop decreases-loop
+loop-less : tie.Need-loop-p-smaller invariant-loop decreases-loop
 loop-less c = omega arith
 
-loop-again : tie.Need-loop-preserved invariant-loop decreases-loop
+loop-again : tie.Need-loop-p-preserved invariant-loop decreases-loop
 loop-again c =
     let a = c.before.before.before.before.before.before.args in
-    let p = c.before.before.before.before.loop.p in
-    seek_pass_if c.before.before.before.before.loop.invariant 4 p 0 (omega arith) refl
-    (path_tested a.n a.m p (get_or a.directions.now p 0) c.before.is-inner.ensures) c.if1.false
+    let p = c.before.before.before.before.loop-p.p in
+    seek_pass_if c.before.before.before.before.loop-p.invariant 4 p 0 (omega arith) refl
+    (path_tested a.n a.m p (get_or a.directions.now p 0) c.before.is_inner.ensures) c.if-d-is_inner.false
 
-returns-2 : tie.Need-returns-2 invariant-loop decreases-loop
-returns-2 c = seek_none c.before.loop.invariant (omega arith)
+returns-2 : tie.Need-returns invariant-loop decreases-loop
+returns-2 c = seek_none c.before.loop-p.invariant (omega arith)
 
-pub check-paths-spec : {M : Type 1} → statement M
-check-paths-spec =
+pub check_paths_spec : {M : Type 1} → statement M
+check_paths_spec =
     tie.close
     (tie.spec
     invariant-loop

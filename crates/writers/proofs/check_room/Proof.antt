@@ -4,11 +4,11 @@ use borrow.Author.Tests.{lt-ltb, le-ltb}
 use Rattle.writers.proofs.check_room.Statement.{statement}
 use Rattle.writers.proofs.check_room.Tie as tie
 
-returns : tie.Need-returns
-returns c = rw (lt-ltb _ c.before.args.needed c.if1.true)
+returns : tie.Need-returns-then-room-needed
+returns c = rw (lt-ltb _ c.before.args.needed c.if-room-needed.true)
 
-returns-2 : tie.Need-returns-2
-returns-2 c = rw (le-ltb _ c.before.args.needed c.if1.false)
+returns-2 : tie.Need-returns
+returns-2 c = rw (le-ltb _ c.before.args.needed c.if-room-needed.false)
 
-pub check-room-spec : {M : Type 1} → statement M
-check-room-spec = tie.close (tie.spec returns returns-2)
+pub check_room_spec : {M : Type 1} → statement M
+check_room_spec = tie.close (tie.spec returns returns-2)

@@ -12,38 +12,38 @@ use Rattle.writers.proofs.check_without_grid.Tie as tie
 
 -- the first test, as the code answers it
 sizes :
-    (c : tie.After-is-size2) →
+    (c : tie.After-is_size-2) →
     let a = c.before.before.before.args in
-    not (c.before.is-size.result && c.is-size2.result) ≡ not (size a.n && size a.m)
-sizes c = rw (c.before.is-size.ensures, c.is-size2.ensures)
+    not (c.before.is_size.result && c.is_size-2.result) ≡ not (size a.n && size a.m)
+sizes c = rw (c.before.is_size.ensures, c.is_size-2.ensures)
 
-is-size-requires : tie.Need-is-size-requires
+is-size-requires : tie.Need-is_size-requires
 is-size-requires c κs = search rules
 
-is-size-requires-2 : tie.Need-is-size-requires-2
+is-size-requires-2 : tie.Need-is_size-requires-2
 is-size-requires-2 c κs = search rules
 
-returns : tie.Need-returns
+returns : tie.Need-returns-then-not-is_size
 unfolding buffer_test
-returns c = test_refuses (sizes c.before) _ c.if1.true
+returns c = test_refuses (sizes c.before) _ c.if-not-is_size.true-raw
 
-returns-2 : tie.Need-returns-2
+returns-2 : tie.Need-returns-then-directions-ne1024
 unfolding buffer_test
 returns-2 c =
-    test_passes (sizes c.before.before) _ _ _ c.before.if1.false
-    (short_refuses c.before.before.before.before.before.args.directions.now _ c.if2.true)
+    test_passes (sizes c.before.before) _ _ _ c.before.if-not-is_size.false-raw
+    (short_refuses c.before.before.before.before.before.args.directions.now _ c.if-directions-ne1024.true)
 
-check-paths-requires : tie.Need-check-paths-requires
+check-paths-requires : tie.Need-check_paths-requires
 check-paths-requires c κs = search rules
 
-returns-3 : tie.Need-returns-3
+returns-3 : tie.Need-returns
 unfolding buffer_test
 returns-3 c =
-    test_passes (sizes c.before.before.before) _ _ _ c.before.before.if1.false
-    (long_passes c.before.before.before.before.before.before.args.directions.now c.before.if2.false
-    c.check-paths.ensures)
+    test_passes (sizes c.before.before.before) _ _ _ c.before.before.if-not-is_size.false-raw
+    (long_passes c.before.before.before.before.before.before.args.directions.now c.before.if-directions-ne1024.false
+    c.check_paths.ensures)
 
-pub check-without-grid-spec : {M : Type 1} → statement M
-check-without-grid-spec =
+pub check_without_grid_spec : {M : Type 1} → statement M
+check_without_grid_spec =
     tie.close
     (tie.spec is-size-requires is-size-requires-2 returns returns-2 check-paths-requires returns-3)

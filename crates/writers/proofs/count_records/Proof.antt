@@ -9,45 +9,45 @@ use borrow.Author.Rules.{rules}
 use Rattle.writers.proofs.count_records.Statement.{statement}
 use Rattle.writers.proofs.count_records.Tie as tie
 
-abbrev invariant-loop : tie.invariant-loop
+abbrev invariant-loop : tie.invariant-loop-p
 invariant-loop kind b count₀ p₀ count p = Counting (recorded kind) b p count
 
-abbrev decreases-loop : tie.decreases-loop
+abbrev decreases-loop : tie.decreases-loop-p
 decreases-loop kind b count₀ p₀ count p = 1024 - p
 
-loop-holds : tie.Need-loop-init invariant-loop decreases-loop
+loop-holds : tie.Need-loop-p-init invariant-loop decreases-loop
 loop-holds c = count_start _ _
 
-shared-slice-read-is-recorded : tie.Need-shared-slice-read-is-recorded invariant-loop decreases-loop
+shared-slice-read-is-recorded : tie.Need-bounds-b-p invariant-loop decreases-loop
 shared-slice-read-is-recorded c = omega arith
 
-is-recorded-requires : tie.Need-is-recorded-requires invariant-loop decreases-loop
+is-recorded-requires : tie.Need-is_recorded-requires invariant-loop decreases-loop
 is-recorded-requires c κs = search rules
 
-add-count : tie.Need-overflow-add-count invariant-loop decreases-loop
+add-count : tie.Need-overflow_add-count invariant-loop decreases-loop
 add-count c = omega arith
 
-add-p : tie.Need-overflow-add-p invariant-loop decreases-loop
+add-p : tie.Need-overflow_step-p invariant-loop decreases-loop
 add-p c = omega arith
 
-loop-less : tie.Need-loop-smaller invariant-loop decreases-loop
+loop-less : tie.Need-loop-p-smaller invariant-loop decreases-loop
 loop-less c = omega arith
 
-loop-again : tie.Need-loop-preserved invariant-loop decreases-loop
+loop-again : tie.Need-loop-p-preserved invariant-loop decreases-loop
 loop-again c =
-    let s = c.before.before.before.before.loop.invariant in
-    let e = c.before.is-recorded.ensures _ in
+    let s = c.before.before.before.before.loop-p.invariant in
+    let e = c.before.is_recorded.ensures _ in
     ⊎_elim
-    (λ w. rw w.1 (count_take s (omega arith) e w.0.taken))
-    (λ w. rw w.1 (count_skip s (omega arith) e w.0.left))
-    c.if1.branch
+    (λ w. rw w.count-is (count_take s (omega arith) e w.if-is_recorded.true))
+    (λ w. rw w.count-is (count_skip s (omega arith) e w.if-is_recorded.false))
+    c.if-is_recorded.branch-raw
 
 returns : tie.Need-returns invariant-loop decreases-loop
 unfolding record_count
-returns c = (count_end c.before.loop.invariant (omega arith), omega arith)
+returns c = (count_end c.before.loop-p.invariant (omega arith), omega arith)
 
-pub count-records-spec : {M : Type 1} → statement M
-count-records-spec =
+pub count_records_spec : {M : Type 1} → statement M
+count_records_spec =
     tie.close
     (tie.spec
     invariant-loop

@@ -20,31 +20,29 @@ use Rattle.writers.proofs.write_checked.Tie as tie
 
 -- the count of the first list
 counted :
-    (c : tie.After-count-records) →
+    (c : tie.After-count_records-count) →
     let a = c.before.before.before.before.args in
-    c.count-records.result ≡ record_count (first_list a.kind) a.b.now
+    c.count_records-count.result ≡ record_count (first_list a.kind) a.b.now
 counted c =
     let a = c.before.before.before.before.args in
-    c.count-records.ensures.0 ∙ ap (λ (r : Record). record_count r a.b.now) c.before.first_list.ensures
+    c.count_records-count.ensures.0 ∙ ap (λ (r : Record). record_count r a.b.now) c.before.first_list-first.ensures
 
 -- the length that the code computes
 needed :
-    (c : tie.After-length-of-rest) →
+    (c : tie.After-length_of_rest) →
     let a = c.before.before.before.before.before.before.before.args in
-    2 + c.before.length-of-list.result + c.length-of-rest.result
+    2 + c.before.length_of_list.result + c.length_of_rest.result
     ≡ length (file_bytes a.kind a.n a.m a.b.now a.trials)
 needed c =
-    let d = c.before.before.before in
-    let s = d.before.before.before.before in
-    let a = s.args in
-    let p : Passed a.kind a.n a.m a.b.now = passed _ _ _ _ s.requires in
+    let a = c.before.before.before.before.before.before.before.args in
+    let p : Passed a.kind a.n a.m a.b.now = passed _ _ _ _ c.before.before.before.before.before.before.before.requires in
     let first =
-    c.before.length-of-list.ensures.0
-    ∙ ap (λ (r : Record). list_length r d.count-records.result) d.before.first_list.ensures
-    ∙ ap (list_length (first_list a.kind)) (counted d) in
+    c.before.length_of_list.ensures.0
+    ∙ ap (λ (r : Record). list_length r c.before.before.before.count_records-count.result) c.before.before.before.before.first_list-first.ensures
+    ∙ ap (list_length (first_list a.kind)) (counted c.before.before.before) in
     let rest =
-    c.length-of-rest.ensures.0
-    ∙ ap (λ (k : ℕ). rest_length a.kind k a.trials) c.before.before.count-dead.ensures.0 in
+    c.length_of_rest.ensures.0
+    ∙ ap (λ (k : ℕ). rest_length a.kind k a.trials) c.before.before.count_dead-dead.ensures.0 in
     omega (
       arith,
       file_length a.b.now p.is_long p.small a.kind a.n a.m a.trials
@@ -54,104 +52,98 @@ needed c =
     )
 
 -- the file, and its tests as the code answers them
-abbrev file : tie.After-or-else → List ℕ
+abbrev file : tie.After-or_else-v → List ℕ
 file c =
     let a = c.before.before.before.before.before.before.before.before.before.before.args in
     file_bytes a.kind a.n a.m a.b.now a.trials
 
 tested :
-    (c : tie.After-or-else) →
+    (c : tie.After-or_else-v) →
     let a = c.before.before.before.before.before.before.before.before.before.before.args in
-    c.or_else.result ≡ or_else (trials_test a.kind a.trials) (room_test (file c) a.out.now)
+    c.or_else-v.result ≡ or_else (trials_test a.kind a.trials) (room_test (file c) a.out.now)
 tested c =
     let a = c.before.before.before.before.before.before.before.before.before.before.args in
     let room =
-    c.before.check-room.ensures
+    c.before.check_room.ensures
     ∙ ap (λ (k : ℕ). room_for k (length a.out.now)) (needed c.before.before.before) in
-    c.or_else.ensures ∙ rw (c.before.before.check-trials.ensures, room)
+    c.or_else-v.ensures ∙ rw (c.before.before.check_trials.ensures, room)
 
-first-list-requires : tie.Need-first-list-requires
+first-list-requires : tie.Need-first_list-first-requires
 first-list-requires c κs = search rules
 
-count-records-requires : tie.Need-count-records-requires
+count-records-requires : tie.Need-count_records-count-requires
 count-records-requires c κs =
     let a = c.before.before.before.args in (passed a.kind a.n a.m a.b.now c.before.before.before.requires).is_long
 
-count-dead-requires : tie.Need-count-dead-requires
+count-dead-requires : tie.Need-count_dead-dead-requires
 count-dead-requires c κs =
-    let s = c.before.before.before.before in
-    let a = s.args in (passed a.kind a.n a.m a.b.now s.requires).is_long
+    let a = c.before.before.before.before.args in (passed a.kind a.n a.m a.b.now c.before.before.before.before.requires).is_long
 
-length-of-list-requires : tie.Need-length-of-list-requires
+length-of-list-requires : tie.Need-length_of_list-requires
 length-of-list-requires c κs = search rules
 
-add-needed : tie.Need-overflow-add-needed
+add-needed : tie.Need-overflow_add-needed
 add-needed c = search rules
 
-length-of-rest-requires : tie.Need-length-of-rest-requires
+length-of-rest-requires : tie.Need-length_of_rest-requires
 length-of-rest-requires c κs = search rules
 
-add-needed-2 : tie.Need-overflow-add-needed-2
+add-needed-2 : tie.Need-overflow_add-needed-2
 add-needed-2 c = search rules
 
-check-trials-requires : tie.Need-check-trials-requires
+check-trials-requires : tie.Need-check_trials-requires
 check-trials-requires c κs = search rules
 
-check-room-requires : tie.Need-check-room-requires
+check-room-requires : tie.Need-check_room-requires
 check-room-requires c κs = search rules
 
-or-else-requires : tie.Need-or-else-requires
+or-else-requires : tie.Need-or_else-v-requires
 or-else-requires c κs = search rules
 
-enum-known-v : tie.Need-enum-known-v
+enum-known-v : tie.Need-enum_known-v
 enum-known-v c = search rules
 
-returns : tie.Need-returns
+returns : tie.Need-returns-in-Refused
 returns c =
-    let d = c.before.before.before in
-    let a = d.before.before.before.before.before.before.before.before.before.before.args in
-    sym (put_refused (file d) a.out.now _ (sym (tested d) ∙ c.before.v.given.1))
+    let a = c.before.before.before.before.before.before.before.before.before.before.before.args in
+    sym (put_refused (file c.before) a.out.now _ (sym (tested c.before) ∙ c.in-Refused.is))
 
-enum_told : tie.Need-enum-told
+enum_told : tie.Need-enum_told-1
 enum_told c = search rules
 
-write-parts-requires : tie.Need-write-parts-requires
+write-parts-requires : tie.Need-write_parts-requires
 write-parts-requires c κs =
-    let o = c.before.before.before in
-    let d = o.before.before.before.before.before in
-    let s = d.before.before.before.before.before in
-    let a = s.args in
-    let p = passed a.kind a.n a.m a.b.now s.requires in
-    let x = both_accepted _ _ (sym (tested o) ∙ c.before.enum_told.given.1) in
+    let a = c.before.before.before.before.before.before.before.before.before.before.before.before.args in
+    let p = passed a.kind a.n a.m a.b.now c.before.before.before.before.before.before.before.before.before.before.before.before.requires in
+    let x = both_accepted _ _ (sym (tested c.before.before) ∙ c.before.in_default.is) in
     record {
       rows = p.sizes.rows_high;
       columns = p.sizes.columns_high;
       parts =
           record {
             long = p.is_long;
-            counted = counted d.before;
-            few = d.before.count-records.ensures.1;
-            dead_counted = d.count-dead.ensures.0;
-            few_dead = d.count-dead.ensures.1;
+            counted = counted c.before.before.before.before.before.before.before.before;
+            few = c.before.before.before.before.before.before.before.before.count_records-count.ensures.1;
+            dead_counted = c.before.before.before.before.before.before.before.count_dead-dead.ensures.0;
+            few_dead = c.before.before.before.before.before.before.before.count_dead-dead.ensures.1;
             low_trials = x.0;
           };
-      room = room_enough (file o) a.out.now x.1;
+      room = room_enough (file c.before.before) a.out.now x.1;
     }
 
-same_length : tie.Need-same-length
+same_length : tie.Need-shape_of-out
 same_length c = search rules
 
-returns-2 : tie.Need-returns-2
+returns-2 : tie.Need-returns
 returns-2 c =
-    let d = c.before.before.before.before.before.before in
-    let a = d.before.before.before.before.before.before.before.before.before.before.args in
-    let w = c.before.before.write-parts.ensures in
+    let a = c.before.before.before.before.before.before.before.before.before.before.before.before.before.before.before.args in
+    let w = c.before.before.write_parts.ensures in
     rw (w.0, w.1, zero-add)
-    (sym (put_tested (file d) a.out.now (trials_test a.kind a.trials)
-    (sym (tested d) ∙ c.before.before.before.before.enum_told.given.1)))
+    (sym (put_tested (file c.before.before.before.before.before) a.out.now (trials_test a.kind a.trials)
+    (sym (tested c.before.before.before.before.before) ∙ c.before.before.before.before.in_default.is)))
 
-pub write-checked-spec : {M : Type 1} → statement M
-write-checked-spec =
+pub write_checked_spec : {M : Type 1} → statement M
+write_checked_spec =
     tie.close
     (tie.spec
     first-list-requires

@@ -6,37 +6,37 @@ use borrow.Author.Rules.{rules}
 use Rattle.writers.proofs.write_file.Statement.{statement}
 use Rattle.writers.proofs.write_file.Tie as tie
 
-check-buffer-requires : tie.Need-check-buffer-requires
+check-buffer-requires : tie.Need-check_buffer-v-requires
 check-buffer-requires c κs = search rules
 
-enum-known-v : tie.Need-enum-known-v
+enum-known-v : tie.Need-enum_known-v
 enum-known-v c = search rules
 
-returns : tie.Need-returns
+returns : tie.Need-returns-in-Refused
 returns c =
-    let a = c.before.before.before.before.before.before.args in
+    let a = c.before.before.before.before.args in
     sym (file_refused a.kind a.n a.m a.b.now a.trials a.out.now _
-    (sym c.before.before.before.check-buffer.ensures ∙ c.before.v.given.1))
+    (sym c.before.check_buffer-v.ensures ∙ c.in-Refused.is))
 
-enum_told : tie.Need-enum-told
+enum_told : tie.Need-enum_told-1
 enum_told c = search rules
 
-write-checked-requires : tie.Need-write-checked-requires
-write-checked-requires c κs = sym c.before.before.before.check-buffer.ensures ∙ c.before.enum_told.given.1
+write-checked-requires : tie.Need-write_checked-requires
+write-checked-requires c κs = sym c.before.before.check_buffer-v.ensures ∙ c.before.in_default.is
 
-same_length : tie.Need-same-length
+same_length : tie.Need-shape_of-out
 same_length c = search rules
 
-returns-2 : tie.Need-returns-2
+returns-2 : tie.Need-returns
 returns-2 c =
-    let a = c.before.before.before.before.before.before.before.before.before.args in
+    let a = c.before.before.before.before.before.before.before.before.args in
     c.before.before.write_checked.ensures
     ∙ sym (file_accepted a.kind a.n a.m a.b.now a.trials a.out.now
-    (sym c.before.before.before.before.before.before.check-buffer.ensures
-    ∙ c.before.before.before.before.enum_told.given.1))
+    (sym c.before.before.before.before.before.check_buffer-v.ensures
+    ∙ c.before.before.before.before.in_default.is))
 
-pub write-file-spec : {M : Type 1} → statement M
-write-file-spec =
+pub write_file_spec : {M : Type 1} → statement M
+write_file_spec =
     tie.close
     (tie.spec
     check-buffer-requires

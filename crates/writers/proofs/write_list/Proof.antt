@@ -10,23 +10,23 @@ use borrow.Author.Rules.{rules}
 use Rattle.writers.proofs.write_list.Statement.{statement}
 use Rattle.writers.proofs.write_list.Tie as tie
 
-write-number-requires : tie.Need-write-number-requires
+write-number-requires : tie.Need-write_number-next-requires
 write-number-requires c κs =
     let a = c.before.before.before.args in
     let f = c.before.before.before.requires in
     let r = run_start a.out.now a.at (list_bytes a.kind a.b.now) f.3 in
     (omega (arith, f.2), run_room r (count_first a.kind a.count a.b.now f.1))
 
-write-records-requires : tie.Need-write-records-requires
+write-records-requires : tie.Need-write_records-requires
 write-records-requires c κs =
     let a = c.before.before.before.before.before.before.before.args in
     let f = c.before.before.before.before.before.before.before.requires in
     let r = run_start a.out.now a.at (list_bytes a.kind a.b.now) f.3 in
-    let w = c.before.before.before.write-number.ensures in
+    let w = c.before.before.before.write_number-next.ensures in
     let s = run_step r (count_first a.kind a.count a.b.now f.1) w.0 w.1 in
     (f.0, run_room s (splits_all (records_of a.kind a.b.now)))
 
-same_length : tie.Need-same-length
+same_length : tie.Need-shape_of-out
 same_length c = search rules
 
 returns : tie.Need-returns
@@ -34,11 +34,11 @@ returns c =
     let a = c.before.before.before.before.before.before.before.before.before.before.args in
     let f = c.before.before.before.before.before.before.before.before.before.before.requires in
     let r = run_start a.out.now a.at (list_bytes a.kind a.b.now) f.3 in
-    let w = c.before.before.before.before.before.before.write-number.ensures in
+    let w = c.before.before.before.before.before.before.write_number-next.ensures in
     let s = run_step r (count_first a.kind a.count a.b.now f.1) w.0 w.1 in
-    let x = c.before.before.write-records.ensures in
+    let x = c.before.before.write_records.ensures in
     run_end (run_step s (splits_all (records_of a.kind a.b.now)) x.0 x.1) refl
 
-pub write-list-spec : {M : Type 1} → statement M
-write-list-spec =
+pub write_list_spec : {M : Type 1} → statement M
+write_list_spec =
     tie.close (tie.spec write-number-requires write-records-requires same_length returns)

@@ -34,7 +34,7 @@ module _ {kind : Kind} {n m count dead t : ℕ} {b out : List ℕ} (f : Fitting 
   last : Splits (rest_bytes kind b t) (rest_bytes kind b t) []
   last = splits_all (rest_bytes kind b t)
 
-write-pair-requires : tie.Need-write-pair-requires
+write-pair-requires : tie.Need-write_pair-third-requires
 write-pair-requires c κs =
     let a = c.before.before.before.args in
     let f = c.before.before.before.requires in (
@@ -43,37 +43,32 @@ write-pair-requires c κs =
       run_room (start f) (sizes_first a.kind a.n a.m a.b.now a.trials),
     )
 
-write-part-requires : tie.Need-write-part-requires
+write-part-requires : tie.Need-write_part-end-requires
 write-part-requires c κs =
-    let d = c.before.before.before in
-    let f = d.before.before.before.before.requires in
-    let w = d.write-pair.ensures in
+    let f = c.before.before.before.before.before.before.before.requires in
+    let w = c.before.before.before.write_pair-third.ensures in
     (f.parts, run_room (sized f w.0 w.1) (lists f))
 
-write-part-requires-2 : tie.Need-write-part-requires-2
+write-part-requires-2 : tie.Need-write_part-requires
 write-part-requires-2 c κs =
-    let e = c.before.before.before in
-    let d = e.before.before.before.before in
-    let f = d.before.before.before.before.requires in
-    let w = d.write-pair.ensures in
-    let x = e.write-part.ensures in
+    let f = c.before.before.before.before.before.before.before.before.before.before.before.requires in
+    let w = c.before.before.before.before.before.before.before.write_pair-third.ensures in
+    let x = c.before.before.before.write_part-end.ensures in
     (f.parts, run_room (run_step (sized f w.0 w.1) (lists f) x.0 x.1) (last f))
 
-same_length : tie.Need-same-length
+same_length : tie.Need-shape_of-out
 same_length c = search rules
 
 returns : tie.Need-returns
 returns c =
-    let e = c.before.before.before.before.before.before in
-    let d = e.before.before.before.before in
-    let f = d.before.before.before.before.requires in
-    let w = d.write-pair.ensures in
-    let x = e.write-part.ensures in
-    let y = c.before.before.write-part2.ensures in
+    let f = c.before.before.before.before.before.before.before.before.before.before.before.before.before.before.requires in
+    let w = c.before.before.before.before.before.before.before.before.before.before.write_pair-third.ensures in
+    let x = c.before.before.before.before.before.before.write_part-end.ensures in
+    let y = c.before.before.write_part.ensures in
     let t = run_step (sized f w.0 w.1) (lists f) x.0 x.1 in
     run_end (run_step t (last f) y.0 y.1) refl
 
-pub write-parts-spec : {M : Type 1} → statement M
-write-parts-spec =
+pub write_parts_spec : {M : Type 1} → statement M
+write_parts_spec =
     tie.close
     (tie.spec write-pair-requires write-part-requires write-part-requires-2 same_length returns)

@@ -6,14 +6,14 @@ use borrow.Author.Rules.{rules}
 use Rattle.writers.proofs.write_plan.Statement.{statement}
 use Rattle.writers.proofs.write_plan.Tie as tie
 
-write-file-requires : tie.Need-write-file-requires
+write-file-requires : tie.Need-write_file-requires
 write-file-requires c κs = search rules
 
-same_length : tie.Need-same-length
+same_length : tie.Need-shape_of-out
 same_length c = search rules
 
 returns : tie.Need-returns
 returns c = answered told c.before.before.write_file.ensures
 
-pub write-plan-spec : {M : Type 1} → statement M
-write-plan-spec = tie.close (tie.spec write-file-requires same_length returns)
+pub write_plan_spec : {M : Type 1} → statement M
+write_plan_spec = tie.close (tie.spec write-file-requires same_length returns)

@@ -10,34 +10,34 @@ use native.Mathlib.Omega.{arith}
 use Rattle.writers.proofs.write_record.Statement.{statement}
 use Rattle.writers.proofs.write_record.Tie as tie
 
-write-pair-requires : tie.Need-write-pair-requires
+write-pair-requires : tie.Need-write_pair-third-requires
 write-pair-requires c κs =
     let a = c.before.before.args in
     let r = run_start a.out.now a.at (record_bytes a.kind a.p a.v) c.before.before.requires.1 in
     (omega arith, omega arith, run_room r (pair_first a.kind a.p a.v))
 
-write-value-requires : tie.Need-write-value-requires
+write-value-requires : tie.Need-write_value-requires
 write-value-requires c κs =
     let a = c.before.before.before.before.before.before.args in
-    let w = c.before.before.before.write-pair.ensures in
+    let w = c.before.before.before.write_pair-third.ensures in
     let r = run_start a.out.now a.at (record_bytes a.kind a.p a.v)
     c.before.before.before.before.before.before.requires.1 in
     let s = run_step r (pair_first a.kind a.p a.v) w.0 w.1 in
     run_room s (splits_all (value_bytes a.kind a.v))
 
-same_length : tie.Need-same-length
+same_length : tie.Need-shape_of-out
 same_length c = search rules
 
 returns : tie.Need-returns
 returns c =
     let a = c.before.before.before.before.before.before.before.before.before.args in
-    let w = c.before.before.before.before.before.before.write-pair.ensures in
-    let x = c.before.before.write-value.ensures in
+    let w = c.before.before.before.before.before.before.write_pair-third.ensures in
+    let x = c.before.before.write_value.ensures in
     let r = run_start a.out.now a.at (record_bytes a.kind a.p a.v)
     c.before.before.before.before.before.before.before.before.before.requires.1 in
     let s = run_step r (pair_first a.kind a.p a.v) w.0 w.1 in
     run_end (run_step s (splits_all (value_bytes a.kind a.v)) x.0 x.1) refl
 
-pub write-record-spec : {M : Type 1} → statement M
-write-record-spec =
+pub write_record_spec : {M : Type 1} → statement M
+write_record_spec =
     tie.close (tie.spec write-pair-requires write-value-requires same_length returns)

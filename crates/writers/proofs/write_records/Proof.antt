@@ -8,51 +8,51 @@ use native.Mathlib.Omega.{arith}
 use Rattle.writers.proofs.write_records.Statement.{statement}
 use Rattle.writers.proofs.write_records.Tie as tie
 
-abbrev invariant-loop : tie.invariant-loop
+abbrev invariant-loop : tie.invariant-loop-p
 invariant-loop kind out₀ start b at₀ p₀ out at p = (p ≤ 1024) × Run out₀ start (records_of kind b) out at (records_from kind b p)
 
-abbrev decreases-loop : tie.decreases-loop
+abbrev decreases-loop : tie.decreases-loop-p
 decreases-loop kind out₀ start b at₀ p₀ out at p = 1024 - p
 
-loop-holds : tie.Need-loop-init invariant-loop decreases-loop
+loop-holds : tie.Need-loop-p-init invariant-loop decreases-loop
 loop-holds c = (omega arith, run_start _ _ _ c.before.before.requires.1)
 
-shared-slice-read-write-element : tie.Need-shared-slice-read-write-element invariant-loop decreases-loop
+shared-slice-read-write-element : tie.Need-bounds-b-p invariant-loop decreases-loop
 shared-slice-read-write-element c = omega arith
 
-write-element-requires : tie.Need-write-element-requires invariant-loop decreases-loop
+write-element-requires : tie.Need-write_element-at-requires invariant-loop decreases-loop
 write-element-requires c κs =
     let a = c.before.before.before.before.before.before.args in (
       omega arith,
-      run_room c.before.before.before.loop.invariant.1
-          (records_turn a.kind a.b.now c.before.before.before.loop.p (omega arith)),
+      run_room c.before.before.before.loop-p.invariant.1
+          (records_turn a.kind a.b.now c.before.before.before.loop-p.p (omega arith)),
     )
 
-add-p : tie.Need-overflow-add-p invariant-loop decreases-loop
+add-p : tie.Need-overflow_step-p invariant-loop decreases-loop
 add-p c = omega arith
 
-loop-less : tie.Need-loop-smaller invariant-loop decreases-loop
+loop-less : tie.Need-loop-p-smaller invariant-loop decreases-loop
 loop-less c = omega arith
 
-loop-again : tie.Need-loop-preserved invariant-loop decreases-loop
+loop-again : tie.Need-loop-p-preserved invariant-loop decreases-loop
 loop-again c =
     let a = c.before.before.before.before.before.before.before.before.before.args in
-    let w = c.before.before.write-element.ensures in (
+    let w = c.before.before.write_element-at.ensures in (
       omega arith,
-      run_step c.before.before.before.before.before.before.loop.invariant.1
-          (records_turn a.kind a.b.now c.before.before.before.before.before.before.loop.p (omega arith)) w.0 w.1,
+      run_step c.before.before.before.before.before.before.loop-p.invariant.1
+          (records_turn a.kind a.b.now c.before.before.before.before.before.before.loop-p.p (omega arith)) w.0 w.1,
     )
 
-same_length : tie.Need-same-length invariant-loop decreases-loop
-same_length c = c.before.loop.invariant.1.long
+same_length : tie.Need-shape_of-out invariant-loop decreases-loop
+same_length c = c.before.loop-p.invariant.1.long
 
 returns : tie.Need-returns invariant-loop decreases-loop
 returns c =
     let a = c.before.before.before.before.args in
-    run_end c.before.loop.invariant.1 (records_end a.kind a.b.now c.before.loop.p (omega arith))
+    run_end c.before.loop-p.invariant.1 (records_end a.kind a.b.now c.before.loop-p.p (omega arith))
 
-pub write-records-spec : {M : Type 1} → statement M
-write-records-spec =
+pub write_records_spec : {M : Type 1} → statement M
+write_records_spec =
     tie.close
     (tie.spec
     invariant-loop
