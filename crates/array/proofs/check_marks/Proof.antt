@@ -37,14 +37,14 @@ decreases-loop n m grid x₀ x = 32 - x
 
 -- what was answered for a position
 answered : (q : tie.After-is_allowed invariant-loop2 decreases-loop2 invariant-loop decreases-loop)
-    → let a = q.before.before.before.before.before.before.before.args in
-    let p = position q.before.before.before.before.before.loop-x.x q.before.before.before.loop-y.y in
+    → let a = q.args in
+    let p = position q.loop-x.x q.loop-y.y in
     q.is_allowed.result ≡ allowed a.n a.m p (get_or a.grid.now p 0)
 answered q =
-    let within : q.before.before.before.loop-y.y ≤ 31 = omega arith in
-    let a = q.before.before.before.before.before.before.before.args in
-    let x = q.before.before.before.before.before.loop-x.x in
-    let y = q.before.before.before.loop-y.y in
+    let within : q.loop-y.y ≤ 31 = omega arith in
+    let a = q.args in
+    let x = q.loop-x.x in
+    let y = q.loop-y.y in
     q.is_allowed.ensures ∙ allowed-here a.n a.m x y (get_or a.grid.now (position x y) 0) within
 
 loop-holds : tie.Need-loop-x-init invariant-loop2 decreases-loop2 invariant-loop decreases-loop
@@ -52,8 +52,8 @@ loop-holds c = seek_start (buffer_scan _ _) 0 (omega arith)
 
 loop2-holds : tie.Need-loop-y-init invariant-loop2 decreases-loop2 invariant-loop decreases-loop
 loop2-holds c =
-    let a = c.before.before.before.args in
-    (omega arith, subst (Passed a.n a.m a.grid.now) (omega arith) c.before.loop-x.invariant)
+    let a = c.args in
+    (omega arith, subst (Passed a.n a.m a.grid.now) (omega arith) c.loop-x.invariant)
 
 mul-p : tie.Need-overflow_mul-p invariant-loop2 decreases-loop2 invariant-loop decreases-loop
 mul-p c = omega arith
@@ -70,7 +70,7 @@ is-allowed-requires c κs = search rules
 
 returns : tie.Need-returns-then-not-is_allowed invariant-loop2 decreases-loop2 invariant-loop decreases-loop
 returns c =
-    seek_stop_if c.before.before.before.before.loop-y.invariant.1 3 _ 0 (omega arith) refl (ap not (answered c.before)) c.if-not-is_allowed.true-raw
+    seek_stop_if c.loop-y.invariant.1 3 _ 0 (omega arith) refl (ap not (answered c.before)) c.if-not-is_allowed.true-raw
 
 add-y : tie.Need-overflow_step-y invariant-loop2 decreases-loop2 invariant-loop decreases-loop
 add-y c = omega arith
@@ -80,10 +80,10 @@ loop2-less c = omega arith
 
 loop2-again : tie.Need-loop-y-preserved invariant-loop2 decreases-loop2 invariant-loop decreases-loop
 loop2-again c =
-    let a = c.before.before.before.before.before.before.before.before.args in (
+    let a = c.args in (
       omega arith,
       subst (Passed a.n a.m a.grid.now) (omega arith)
-          (seek_pass_if c.before.before.before.before.loop-y.invariant.1 3 _ 0 (omega arith) refl (ap not (answered c.before)) c.if-not-is_allowed.false-raw),
+          (seek_pass_if c.loop-y.invariant.1 3 _ 0 (omega arith) refl (ap not (answered c.before)) c.if-not-is_allowed.false-raw),
     )
 
 add-x : tie.Need-overflow_step-x invariant-loop2 decreases-loop2 invariant-loop decreases-loop
@@ -94,11 +94,11 @@ loop-less c = omega arith
 
 loop-again : tie.Need-loop-x-preserved invariant-loop2 decreases-loop2 invariant-loop decreases-loop
 loop-again c =
-    let a = c.before.before.before.before.before.args in
-    subst (Passed a.n a.m a.grid.now) (omega (arith, c.before.loop-y.invariant.0)) c.before.loop-y.invariant.1
+    let a = c.args in
+    subst (Passed a.n a.m a.grid.now) (omega (arith, c.loop-y.invariant.0)) c.loop-y.invariant.1
 
 returns-2 : tie.Need-returns invariant-loop2 decreases-loop2 invariant-loop decreases-loop
-returns-2 c = seek_none c.before.loop-x.invariant (omega arith)
+returns-2 c = seek_none c.loop-x.invariant (omega arith)
 
 pub check_marks_spec : {M : Type 1} → statement M
 check_marks_spec =

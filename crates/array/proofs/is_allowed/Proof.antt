@@ -16,21 +16,21 @@ is-dead-requires c κs = search rules
 
 returns : tie.Need-returns-then-is_inner_at
 returns c =
-    ap (λ (b : Bool). leb c.before.before.before.args.mark 1 || b) c.is_dead.ensures
-    ∙ sym (cond_taken _ _ c.before.before.is_inner_at.ensures c.before.if-is_inner_at.true)
+    ap (λ (b : Bool). leb c.args.mark 1 || b) c.is_dead.ensures
+    ∙ sym (cond_taken _ _ c.is_inner_at.ensures c.if-is_inner_at.true)
 
 is-processor-at-requires : tie.Need-is_processor_at-requires
 is-processor-at-requires c κs = search rules
 
 returns-2 : tie.Need-returns-then-is_processor_at
 returns-2 c =
-    sym (cond_left _ _ c.before.before.before.is_inner_at.ensures c.before.before.if-is_inner_at.false
-    ∙ cond_taken _ _ c.before.is_processor_at.ensures c.if-is_processor_at.true)
+    sym (cond_left _ _ c.is_inner_at.ensures c.if-is_inner_at.false
+    ∙ cond_taken _ _ c.is_processor_at.ensures c.if-is_processor_at.true)
 
 returns-3 : tie.Need-returns-else-is_processor_at
 returns-3 c =
-    sym (cond_left _ _ c.before.before.before.is_inner_at.ensures c.before.before.if-is_inner_at.false
-    ∙ cond_left _ _ c.before.is_processor_at.ensures c.if-is_processor_at.false)
+    sym (cond_left _ _ c.is_inner_at.ensures c.if-is_inner_at.false
+    ∙ cond_left _ _ c.is_processor_at.ensures c.if-is_processor_at.false)
 
 pub is_allowed_spec : {M : Type 1} → statement M
 is_allowed_spec =

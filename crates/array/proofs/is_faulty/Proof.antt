@@ -13,7 +13,7 @@ is-dead-requires c κs = search rules
 
 returns : tie.Need-returns
 unfolding faulty_mark
-returns c = ap (λ (b : Bool). eqb c.before.args.mark 1 || b) c.is_dead.ensures
+returns c = ap (λ (b : Bool). eqb c.args.mark 1 || b) c.is_dead.ensures
 
 pub is_faulty_spec : {M : Type 1} → statement M
 is_faulty_spec = tie.close (tie.spec is-dead-requires returns)

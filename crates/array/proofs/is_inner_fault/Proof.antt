@@ -11,7 +11,7 @@ is-faulty-requires : tie.Need-is_faulty-requires
 is-faulty-requires c κs = search rules
 
 returns : tie.Need-returns
-returns c = rw (c.before.is_inner.ensures, c.is_faulty.ensures)
+returns c = rw (c.is_inner.ensures, c.is_faulty.ensures)
 
 pub is_inner_fault_spec : {M : Type 1} → statement M
 is_inner_fault_spec = tie.close (tie.spec is-inner-requires is-faulty-requires returns)

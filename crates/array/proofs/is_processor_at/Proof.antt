@@ -14,7 +14,7 @@ is-corner-at-requires : tie.Need-is_corner_at-requires
 is-corner-at-requires c κs = search rules
 
 returns : tie.Need-returns-then-x-n
-returns c = rw (c.before.if-x-n.true, c.is_corner_at.ensures)
+returns c = rw (c.if-x-n.true, c.is_corner_at.ensures)
 
 returns-2 : tie.Need-returns
 returns-2 c = rw c.if-x-n.false

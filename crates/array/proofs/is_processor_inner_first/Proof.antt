@@ -11,8 +11,8 @@ is-inner-at-requires c κs = search rules
 
 returns : tie.Need-returns-then-is_inner_at
 returns c =
-    let a = c.before.before.args in
-    sym (inner_stands a.n a.m a.x a.y (sym c.before.is_inner_at.ensures ∙ c.if-is_inner_at.true))
+    let a = c.args in
+    sym (inner_stands a.n a.m a.x a.y (sym c.is_inner_at.ensures ∙ c.if-is_inner_at.true))
 
 is-processor-at-requires : tie.Need-is_processor_at-requires
 is-processor-at-requires c κs = search rules

@@ -18,7 +18,7 @@ module _ (c : tie.Else-is_inner-p) where
   other : (inner s.args.n s.args.m s.args.p ≡ true) × (s.args.p ≡ s.args.q → ⊥)
   other =
       tested s.args.n s.args.m s.args.up s.args.q s.args.e s.args.d s.args.p s.args.counter
-      c.before.is_inner.ensures c.if-is_inner-p.false
+      c.is_inner.ensures c.if-is_inner-p.false
 
   apart : s.args.p ≡ s.args.q → ⊥
   apart = other.1
@@ -33,8 +33,8 @@ is-inner-requires c κs = search rules
 
 returns : tie.Need-returns-then-is_inner-p
 returns c =
-    not_tested c.before.before.args.n c.before.before.args.m c.before.before.args.up c.before.before.args.q c.before.before.args.e c.before.before.args.d c.before.before.args.p c.before.before.args.counter
-    c.before.is_inner.ensures c.if-is_inner-p.true
+    not_tested c.args.n c.args.m c.args.up c.args.q c.args.e c.args.d c.args.p c.args.counter
+    c.is_inner.ensures c.if-is_inner-p.true
 
 cast-find-entry : tie.Need-overflow_cast-p
 cast-find-entry c = let h = (start_path (start c)).row_high in record { fits = omega arith }
@@ -55,7 +55,7 @@ returns-2 : tie.Need-returns-then-found-eq-CLEAR
 returns-2 c =
     let a = (s c.before.before).args in
     clear_same a.n a.m a.up a.q a.e a.d a.p a.counter (start c.before.before) (s c.before.before).requires.1 (apart c.before.before)
-    c.before.find_entry-found.ensures c.if-found-eq-CLEAR.true
+    c.find_entry-found.ensures c.if-found-eq-CLEAR.true
 
 alter-requires : tie.Need-alter-requires
 alter-requires c κs = search rules
@@ -64,7 +64,7 @@ returns-3 : tie.Need-returns
 returns-3 c =
     let a = (s c.before.before.before).args in
     clash_altered a.n a.m a.up a.q a.e a.d a.p a.counter (start c.before.before.before) (s c.before.before.before).requires.1 (apart c.before.before.before)
-    c.before.before.find_entry-found.ensures c.before.if-found-eq-CLEAR.false c.alter.ensures
+    c.find_entry-found.ensures c.if-found-eq-CLEAR.false c.alter.ensures
 
 pub alter_at_spec : {M : Type 1} → statement M
 alter_at_spec =

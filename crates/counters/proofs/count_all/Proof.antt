@@ -26,18 +26,18 @@ clash-table-requires c κs = search rules
 
 loop-holds : tie.Need-loop-q-init invariant-loop decreases-loop
 loop-holds c =
-    let h = c.before.before.before.before.before.before.requires in
+    let h = c.requires in
     (omega arith, tally_start h.0 1 h.1, tally_start h.0 2 h.2, tally_start h.0 3 h.3, tally_start h.0 4 h.4)
 
 shared-slice-read-e : tie.Need-bounds-directions-q invariant-loop decreases-loop
 shared-slice-read-e c =
-    omega (arith, c.before.before.before.before.before.before.before.before.before.requires.0.long)
+    omega (arith, c.requires.0.long)
 
 alter-all-requires : tie.Need-alter_all-requires invariant-loop decreases-loop
 alter-all-requires c κs =
-    let v = c.before.before.before.before.before.before.before.before.loop-q.invariant in
-    let start = c.before.before.before.before.before.before.before.before.before.before.before.before.before.before.before.requires.0.each c.before.before.before.before.before.before.before.before.loop-q.q (omega arith) c.before.before.before.before.before.if-e-ne0.true in
-    (c.before.before.before.before.before.before.before.before.before.clash_table-table.ensures.0, start, tally_long v.1, tally_long v.2, tally_long v.3, tally_long v.4)
+    let v = c.loop-q.invariant in
+    let start = c.requires.0.each c.loop-q.q (omega arith) c.if-e-ne0.true in
+    (c.clash_table-table.ensures.0, start, tally_long v.1, tally_long v.2, tally_long v.3, tally_long v.4)
 
 add-q : tie.Need-overflow_step-q invariant-loop decreases-loop
 add-q c = search rules
@@ -47,8 +47,8 @@ loop-less c = search rules
 
 loop-again : tie.Need-loop-q-preserved invariant-loop decreases-loop
 loop-again c =
-    let v = c.before.before.before.loop-q.invariant in
-    let kept = c.before.before.before.before.before.before.before.before.before.before.requires.0 in
+    let v = c.loop-q.invariant in
+    let kept = c.requires.0 in
     ⊎_elim
     (λ w.
     let h = w.alter_all.ensures in (
@@ -69,20 +69,20 @@ loop-again c =
     c.if-e-ne0.branch-raw
 
 same_length : tie.Need-shape_of-south invariant-loop decreases-loop
-same_length c = tally_same c.before.loop-q.invariant.1 (start c).requires.1
+same_length c = tally_same c.loop-q.invariant.1 (start c).requires.1
 
 same-length-2 : tie.Need-shape_of-north invariant-loop decreases-loop
-same-length-2 c = tally_same c.before.loop-q.invariant.2 (start c).requires.2
+same-length-2 c = tally_same c.loop-q.invariant.2 (start c).requires.2
 
 same-length-3 : tie.Need-shape_of-east invariant-loop decreases-loop
-same-length-3 c = tally_same c.before.loop-q.invariant.3 (start c).requires.3
+same-length-3 c = tally_same c.loop-q.invariant.3 (start c).requires.3
 
 same-length-4 : tie.Need-shape_of-west invariant-loop decreases-loop
-same-length-4 c = tally_same c.before.loop-q.invariant.4 (start c).requires.4
+same-length-4 c = tally_same c.loop-q.invariant.4 (start c).requires.4
 
 returns : tie.Need-returns invariant-loop decreases-loop
 returns c =
-    let v = c.before.loop-q.invariant in
+    let v = c.loop-q.invariant in
     let kept = (start c).requires.0 in (
       tally_end kept 1 v.1 (omega arith),
       tally_end kept 2 v.2 (omega arith),

@@ -25,20 +25,20 @@ refuse-requires c κs = search rules
 returns : tie.Need-returns-in_default
 unfolding stretch_from
 returns c =
-    let v = c.before.before.before.before.before.before.before.before.args.walk in
-    let f = rw c.before.in_default.is at c.before.before.stretch_from-s.ensures in
+    let v = c.args.walk in
+    let f = rw c.in_default.is at c.stretch_from-s.ensures in
     no_way (of c.before.before.before.before.before.before.before.before) (port_of v.port) v.last v.passed f.is c.refuse.ensures
 
 enter-requires : tie.Need-enter-requires
 enter-requires c κs =
-    let f = rw c.in-To.is at c.before.stretch_from-s.ensures in
-    (c.before.before.before.before.before.before.before.requires.0, f.sound, c.before.before.before.before.before.before.before.requires.1.few)
+    let f = rw c.in-To.is at c.stretch_from-s.ensures in
+    (c.requires.0, f.sound, c.requires.1.few)
 
 returns-2 : tie.Need-returns
 unfolding stretch_from
 returns-2 c =
-    let v = c.before.before.before.before.before.before.before.before.args.walk in
-    let f = rw c.before.in-To.is at c.before.before.stretch_from-s.ensures in
+    let v = c.args.walk in
+    let f = rw c.in-To.is at c.stretch_from-s.ensures in
     on_way (of c.before.before.before.before.before.before.before.before) (port_of v.port) v.last v.passed _ f.is c.enter.ensures
 
 pub advance_spec : {M : Type 1} → statement M

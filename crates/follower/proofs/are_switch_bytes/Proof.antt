@@ -33,9 +33,9 @@ is-switch-byte-requires-2 c κs = search rules
 
 returns : tie.Need-returns-then-is_inner
 returns c =
-    let a = c.before.before.before.before.args in
-    let b = both a.n a.m a.p (sym c.before.before.before.is_inner.ensures ∙ c.before.before.if-is_inner.true) in
-    rw (c.before.is_switch_byte.ensures, c.is_switch_byte-then-is_inner.ensures, b.0, b.1)
+    let a = c.args in
+    let b = both a.n a.m a.p (sym c.is_inner.ensures ∙ c.if-is_inner.true) in
+    rw (c.is_switch_byte.ensures, c.is_switch_byte-then-is_inner.ensures, b.0, b.1)
 
 is-standing-requires : tie.Need-is_standing-across-requires
 is-standing-requires c κs = search rules
@@ -53,10 +53,10 @@ returns-2 : tie.Need-returns
 unfolding stands
 returns-2 c =
     rw (
-      c.before.is_switch_byte-2.ensures,
+      c.is_switch_byte-2.ensures,
       c.is_switch_byte-3.ensures,
-      c.before.before.before.is_standing-across.ensures,
-      c.before.before.is_standing-down.ensures,
+      c.is_standing-across.ensures,
+      c.is_standing-down.ensures,
     )
 
 pub are_switch_bytes_spec : {M : Type 1} → statement M

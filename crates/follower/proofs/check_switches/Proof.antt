@@ -39,7 +39,7 @@ are-switch-bytes-requires : tie.Need-are_switch_bytes-requires invariant-loop de
 are-switch-bytes-requires c κs = search rules
 
 returns : tie.Need-returns-then-not-are_switch_bytes invariant-loop decreases-loop
-returns c = λ g ds. seek_stop_if c.before.before.before.before.before.loop-p.invariant 16 _ 0 (omega arith) refl (ap not c.before.are_switch_bytes.ensures) c.if-not-are_switch_bytes.true-raw
+returns c = λ g ds. seek_stop_if c.loop-p.invariant 16 _ 0 (omega arith) refl (ap not c.are_switch_bytes.ensures) c.if-not-are_switch_bytes.true-raw
 
 add-p : tie.Need-overflow_step-p invariant-loop decreases-loop
 add-p c = omega arith
@@ -48,10 +48,10 @@ loop-less : tie.Need-loop-p-smaller invariant-loop decreases-loop
 loop-less c = omega arith
 
 loop-again : tie.Need-loop-p-preserved invariant-loop decreases-loop
-loop-again c = seek_pass_if c.before.before.before.before.before.loop-p.invariant 16 _ 0 (omega arith) refl (ap not c.before.are_switch_bytes.ensures) c.if-not-are_switch_bytes.false-raw
+loop-again c = seek_pass_if c.loop-p.invariant 16 _ 0 (omega arith) refl (ap not c.are_switch_bytes.ensures) c.if-not-are_switch_bytes.false-raw
 
 returns-2 : tie.Need-returns invariant-loop decreases-loop
-returns-2 c = λ g ds. seek_none c.before.loop-p.invariant (omega arith)
+returns-2 c = λ g ds. seek_none c.loop-p.invariant (omega arith)
 
 pub check_switches_spec : {M : Type 1} → statement M
 check_switches_spec =

@@ -24,8 +24,8 @@ enum-known-v c = search rules
 
 pass-requires : tie.Need-pass-requires
 pass-requires c κs =
-    let f = rw c.in-On.is at c.before.inside_at-v.ensures in
-    (c.before.before.before.before.before.before.requires.1, f.sound, c.before.before.before.before.before.before.requires.2)
+    let f = rw c.in-On.is at c.inside_at-v.ensures in
+    (c.requires.1, f.sound, c.requires.2)
 
 enum-told-2 : tie.Need-enum_told-in-Stops
 enum-told-2 c = search rules
@@ -35,20 +35,20 @@ stop-requires c κs = search rules
 
 returns : tie.Need-returns-in-Ends
 returns c =
-    let a = c.before.before.before.before.before.before.before.args in
-    let f = rw c.before.in-Ends.is at c.before.before.inside_at-v.ensures in
+    let a = c.args in
+    let f = rw c.in-Ends.is at c.inside_at-v.ensures in
     at_end (of c.before.before.before.before.before.before.before) (port_of a.port) a.last a.passed f.is c.land.ensures
 
 returns-2 : tie.Need-returns-in-On
 returns-2 c =
-    let a = c.before.before.before.before.before.before.before.args in
-    let f = rw c.before.in-On.is at c.before.before.inside_at-v.ensures in
+    let a = c.args in
+    let f = rw c.in-On.is at c.inside_at-v.ensures in
     at_join (of c.before.before.before.before.before.before.before) (port_of a.port) a.last a.passed _ f.is (c.pass.ensures (of c.before.before.before.before.before.before.before))
 
 returns-3 : tie.Need-returns-in-Stops
 returns-3 c =
-    let a = c.before.before.before.before.before.before.before.args in
-    let f = rw c.before.in-Stops.is at c.before.before.inside_at-v.ensures in
+    let a = c.args in
+    let f = rw c.in-Stops.is at c.inside_at-v.ensures in
     at_stop (of c.before.before.before.before.before.before.before) (port_of a.port) a.last a.passed f.is (c.stop.ensures a.grid.now)
 
 pub enter_spec : {M : Type 1} → statement M

@@ -25,11 +25,11 @@ abbrev of : tie.Start invariant-loop decreases-loop → Wafer
 of s = let a = s.args in wafer a.n a.m a.grid.now a.directions.now a.across.now a.down.now
 
 -- the same where a node is left to enter
-one_more : (c : tie.In-loop-left invariant-loop decreases-loop) → let l = c.before.loop-left in let a = c.before.before.before.before.before.before.args in
+one_more : (c : tie.In-loop-left invariant-loop decreases-loop) → let l = c.loop-left in let a = c.args in
     judged a.grid.now l.walk.last l.walk.passed (run (of c.before.before.before.before.before.before) (suc (l.left - 1)) (port_of l.walk.port))
     ≡ judged a.grid.now a.from 0 (run (of c.before.before.before.before.before.before) 7 (out_of a.from a.side))
 one_more c =
-    let l = c.before.loop-left in
+    let l = c.loop-left in
     let e : suc (l.left - 1) ≡ l.left = omega arith in
     rw e l.invariant.1
 
@@ -41,24 +41,24 @@ add-t17 c = omega arith
 
 loop-holds : tie.Need-loop-left-init invariant-loop decreases-loop
 loop-holds c =
-    let a = c.before.before.before.before.args in (
+    let a = c.args in (
       record {
         port = record { kinds = omega arith; rows = omega arith; columns = omega arith; sides = omega arith };
         few = omega arith;
       },
-      ap (λ (q : Compass). judged a.grid.now a.from 0 (run (of c.before.before.before.before) 7 (processor_of a.from at q))) (out_side a.side c.before.before.before.before.requires.2),
+      ap (λ (q : Compass). judged a.grid.now a.from 0 (run (of c.before.before.before.before) 7 (processor_of a.from at q))) (out_side a.side c.requires.2),
     )
 
 advance-requires : tie.Need-advance-s-requires invariant-loop decreases-loop
-advance-requires c κs = (c.before.before.before.before.before.before.requires.0, c.before.loop-left.invariant.0)
+advance-requires c κs = (c.requires.0, c.loop-left.invariant.0)
 
 enum-known-s : tie.Need-enum_known-s invariant-loop decreases-loop
 enum-known-s c = search rules
 
 returns : tie.Need-returns-in-Done invariant-loop decreases-loop
 returns c =
-    let f = rw c.in-Done.is at c.before.advance-s.ensures in
-    f.is (c.before.before.before.loop-left.left - 1) ∙ one_more c.before.before
+    let f = rw c.in-Done.is at c.advance-s.ensures in
+    f.is (c.loop-left.left - 1) ∙ one_more c.before.before
 
 enum-known-s-2 : tie.Need-enum_known-s-in-Go-1 invariant-loop decreases-loop
 enum-known-s-2 c = search rules
@@ -71,18 +71,18 @@ loop-less c = omega arith
 
 loop-again : tie.Need-loop-left-preserved invariant-loop decreases-loop
 loop-again c =
-    let f = rw c.in-Go.is at c.before.advance-s.ensures in
-    (f.sound, f.is (c.before.before.before.loop-left.left - 1) ∙ one_more c.before.before)
+    let f = rw c.in-Go.is at c.advance-s.ensures in
+    (f.sound, f.is (c.loop-left.left - 1) ∙ one_more c.before.before)
 
 refuse-requires : tie.Need-refuse-requires invariant-loop decreases-loop
 refuse-requires c κs = search rules
 
 returns-2 : tie.Need-returns invariant-loop decreases-loop
 returns-2 c =
-    let a = c.before.before.before.before.before.before.before.args in
-    let v = c.before.before.loop-left.walk in
-    let e : c.before.before.loop-left.left ≡ 0 = omega arith in
-    c.refuse.ensures ∙ sym (none_left (of c.before.before.before.before.before.before.before) a.grid.now v.last v.passed (port_of v.port)) ∙ (rw e at c.before.before.loop-left.invariant.1)
+    let a = c.args in
+    let v = c.loop-left.walk in
+    let e : c.loop-left.left ≡ 0 = omega arith in
+    c.refuse.ensures ∙ sym (none_left (of c.before.before.before.before.before.before.before) a.grid.now v.last v.passed (port_of v.port)) ∙ (rw e at c.loop-left.invariant.1)
 
 pub follow_spec : {M : Type 1} → statement M
 follow_spec =

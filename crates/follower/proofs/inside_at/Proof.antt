@@ -30,9 +30,9 @@ processor-join-requires c κs = search rules
 
 returns : tie.Need-returns-then-kind-eq0
 returns c =
-    let a = c.before.before.before.before.before.before.before.before.before.before.args in
+    let a = c.args in
     let p = position a.port.row a.port.column in
-    finds_processor _ a.port _ c.before.before.before.if-kind-eq0.true
+    finds_processor _ a.port _ c.if-kind-eq0.true
     (c.processor_join.ensures
     ∙ ap (λ (x : ℕ). processor_joins (inner_faulty a.n a.m p x) (dead_mark x) (get_or a.directions.now p 0) (compass a.port.side))
     (sym (mark_read a.grid.now p (omega arith))))
@@ -45,7 +45,7 @@ switch-join-requires c κs = search rules
 
 returns-2 : tie.Need-returns-then-kind-eq1
 returns-2 c =
-    finds_across _ c.before.before.before.before.before.before.before.before.before.before.args.port _ c.before.before.if-kind-eq1.true refl c.switch_join.ensures
+    finds_across _ c.args.port _ c.if-kind-eq1.true refl c.switch_join.ensures
 
 shared-slice-read-switch-join-2 : tie.Need-bounds-down-p
 shared-slice-read-switch-join-2 c = search rules
@@ -55,7 +55,7 @@ switch-join-requires-2 c κs = search rules
 
 returns-3 : tie.Need-returns
 returns-3 c =
-    finds_down _ c.before.before.before.before.before.before.before.before.before.before.args.port _ (omega arith) refl c.switch_join-2.ensures
+    finds_down _ c.args.port _ (omega arith) refl c.switch_join-2.ensures
 
 pub inside_at_spec : {M : Type 1} → statement M
 inside_at_spec =

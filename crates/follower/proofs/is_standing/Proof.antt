@@ -22,11 +22,11 @@ none-stands n m kind x y h =
 is-processor-at-requires : tie.Need-is_processor_at-requires
 is-processor-at-requires c κs = search rules
 
-here : (c : tie.Else-not-is_processor_at) → let a = c.before.before.args in processor_at a.n a.m a.x a.y ≡ true
-here c = sym c.before.is_processor_at.ensures ∙ not-false _ c.if-not-is_processor_at.false-raw
+here : (c : tie.Else-not-is_processor_at) → let a = c.args in processor_at a.n a.m a.x a.y ≡ true
+here c = sym c.is_processor_at.ensures ∙ not-false _ c.if-not-is_processor_at.false-raw
 
 returns : tie.Need-returns-then-not-is_processor_at
-returns c = none-stands _ _ c.before.before.args.kind _ _ (sym c.before.is_processor_at.ensures ∙ not-true _ c.if-not-is_processor_at.true-raw)
+returns c = none-stands _ _ c.args.kind _ _ (sym c.is_processor_at.ensures ∙ not-true _ c.if-not-is_processor_at.true-raw)
 
 returns-2 : tie.Need-returns-then-kind-eq0
 unfolding stands
@@ -40,7 +40,7 @@ is-processor-at-requires-2 c κs = search rules
 
 returns-3 : tie.Need-returns-then-kind-eq1
 unfolding stands
-returns-3 c = rw (c.before.if-kind-eq1.true, here c.before.before.before, c.is_processor_at-then-kind-eq1.ensures)
+returns-3 c = rw (c.if-kind-eq1.true, here c.before.before.before, c.is_processor_at-then-kind-eq1.ensures)
 
 add-is-processor-at-2 : tie.Need-overflow_add-x
 add-is-processor-at-2 c = search rules
@@ -52,8 +52,8 @@ returns-4 : tie.Need-returns
 unfolding stands
 returns-4 c =
     simp (
-      ne_eqb _ _ c.before.before.if-kind-eq0.false,
-      ne_eqb _ _ c.before.if-kind-eq1.false,
+      ne_eqb _ _ c.if-kind-eq0.false,
+      ne_eqb _ _ c.if-kind-eq1.false,
       here c.before.before.before,
       c.is_processor_at-2.ensures,
     )

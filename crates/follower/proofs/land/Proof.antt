@@ -35,16 +35,16 @@ refuse-requires c κs = search rules
 
 returns : tie.Need-returns-then-is_faulty
 returns c =
-    let a = c.before.before.before.before.before.before.before.args in
+    let a = c.args in
     c.refuse.ensures
-    ∙ sym (judged_enters a.grid.now a.last a.passed a.port c.before.before.before.before.before.before.before.requires.1
-    ∙ cond_taken _ _ (read c.before.before.before.before.before.before.before c.before.before.is_faulty.ensures) c.before.if-is_faulty.true)
+    ∙ sym (judged_enters a.grid.now a.last a.passed a.port c.requires.1
+    ∙ cond_taken _ _ (read c.before.before.before.before.before.before.before c.is_faulty.ensures) c.if-is_faulty.true)
 
 returns-2 : tie.Need-returns
 returns-2 c =
-    let a = c.before.before.before.before.before.before.args in
-    sym (judged_enters a.grid.now a.last a.passed a.port c.before.before.before.before.before.before.requires.1
-    ∙ cond_left _ _ (read c.before.before.before.before.before.before c.before.is_faulty.ensures) c.if-is_faulty.false)
+    let a = c.args in
+    sym (judged_enters a.grid.now a.last a.passed a.port c.requires.1
+    ∙ cond_left _ _ (read c.before.before.before.before.before.before c.is_faulty.ensures) c.if-is_faulty.false)
 
 pub land_spec : {M : Type 1} → statement M
 land_spec =

@@ -18,13 +18,13 @@ is-before-all-requires c κs = search rules
 returns : tie.Need-returns-then-is_before_all
 returns c =
     record {
-      is = found_is c.before.before.before.args.port c.before.before.before.requires true _ _ _ _ _ c.before.before.index_along-i.ensures.0 (sym c.if-is_before_all.true ∙ c.before.is_before_all.ensures) refl refl refl refl;
+      is = found_is c.args.port c.requires true _ _ _ _ _ c.index_along-i.ensures.0 (sym c.if-is_before_all.true ∙ c.is_before_all.ensures) refl refl refl refl;
       near = tt;
     }
 
 next-index-requires : tie.Need-next_index-next-requires
 next-index-requires c κs =
-    (c.before.before.before.requires.sides, c.before.before.index_along-i.ensures.1, sym c.before.is_before_all.ensures ∙ c.if-is_before_all.false)
+    (c.requires.sides, c.index_along-i.ensures.1, sym c.is_before_all.ensures ∙ c.if-is_before_all.false)
 
 next-kind-requires : tie.Need-next_kind-other-requires
 next-kind-requires c κs = search rules
@@ -36,18 +36,18 @@ returns-2 : tie.Need-returns-then-side-lt2
 returns-2 c =
     record {
       is =
-          found_is c.before.before.before.before.before.before.before.args.port c.before.before.before.before.before.before.before.requires false true _ _ _ _ c.before.before.before.before.before.before.index_along-i.ensures.0 (sym c.before.before.before.before.if-is_before_all.false ∙ c.before.before.before.before.before.is_before_all.ensures)
-          (sym (lt-ltb _ _ c.if-side-lt2.true)) c.before.before.next_kind-other.ensures.0 c.before.before.before.next_index-next.ensures.0 c.before.opposite_side-facing.ensures.0;
-      near = (c.before.before.next_kind-other.ensures.1, omega arith, c.before.before.before.next_index-next.ensures.1, c.before.opposite_side-facing.ensures.1);
+          found_is c.args.port c.requires false true _ _ _ _ c.index_along-i.ensures.0 (sym c.if-is_before_all.false ∙ c.is_before_all.ensures)
+          (sym (lt-ltb _ _ c.if-side-lt2.true)) c.next_kind-other.ensures.0 c.next_index-next.ensures.0 c.opposite_side-facing.ensures.0;
+      near = (c.next_kind-other.ensures.1, omega arith, c.next_index-next.ensures.1, c.opposite_side-facing.ensures.1);
     }
 
 returns-3 : tie.Need-returns-else-side-lt2
 returns-3 c =
     record {
       is =
-          found_is c.before.before.before.before.before.before.before.args.port c.before.before.before.before.before.before.before.requires false false _ _ _ _ c.before.before.before.before.before.before.index_along-i.ensures.0 (sym c.before.before.before.before.if-is_before_all.false ∙ c.before.before.before.before.before.is_before_all.ensures)
-          (sym (le-ltb _ _ c.if-side-lt2.false)) c.before.before.next_kind-other.ensures.0 c.before.before.before.next_index-next.ensures.0 c.before.opposite_side-facing.ensures.0;
-      near = (c.before.before.next_kind-other.ensures.1, c.before.before.before.next_index-next.ensures.1, omega arith, c.before.opposite_side-facing.ensures.1);
+          found_is c.args.port c.requires false false _ _ _ _ c.index_along-i.ensures.0 (sym c.if-is_before_all.false ∙ c.is_before_all.ensures)
+          (sym (le-ltb _ _ c.if-side-lt2.false)) c.next_kind-other.ensures.0 c.next_index-next.ensures.0 c.opposite_side-facing.ensures.0;
+      near = (c.next_kind-other.ensures.1, c.next_index-next.ensures.1, omega arith, c.opposite_side-facing.ensures.1);
     }
 
 pub neighbour_of_spec : {M : Type 1} → statement M

@@ -11,22 +11,22 @@ add-if2 : tie.Need-overflow_add-side
 add-if2 c = search rules
 
 sub-result : tie.Need-overflow_sub-result
-sub-result c = not_before c.before.before.args.kind c.before.before.args.side c.before.before.args.i c.before.before.requires.2 c.before.if-side-eq0.true c.if-kind-side.false
+sub-result c = not_before c.args.kind c.args.side c.args.i c.requires.2 c.if-side-eq0.true c.if-kind-side.false
 
 add-result : tie.Need-overflow_add-result
 add-result c = search rules
 
 returns : tie.Need-returns-then-kind-side
-returns c = (simp (eq-eqb _ _ c.before.if-side-eq0.true, eq-eqb _ _ c.if-kind-side.true), omega arith)
+returns c = (simp (eq-eqb _ _ c.if-side-eq0.true, eq-eqb _ _ c.if-kind-side.true), omega arith)
 
 returns-2 : tie.Need-returns-else-kind-side
-returns-2 c = (simp (eq-eqb _ _ c.before.if-side-eq0.true, ne_eqb _ _ c.if-kind-side.false), omega arith)
+returns-2 c = (simp (eq-eqb _ _ c.if-side-eq0.true, ne_eqb _ _ c.if-kind-side.false), omega arith)
 
 returns-3 : tie.Need-returns-then-kind-eq0
-returns-3 c = (simp (ne_eqb _ _ c.before.if-side-eq0.false, eq-eqb _ _ c.if-kind-eq0.true), omega arith)
+returns-3 c = (simp (ne_eqb _ _ c.if-side-eq0.false, eq-eqb _ _ c.if-kind-eq0.true), omega arith)
 
 returns-4 : tie.Need-returns-else-kind-eq0
-returns-4 c = (simp (ne_eqb _ _ c.before.if-side-eq0.false, ne_eqb _ _ c.if-kind-eq0.false), omega arith)
+returns-4 c = (simp (ne_eqb _ _ c.if-side-eq0.false, ne_eqb _ _ c.if-kind-eq0.false), omega arith)
 
 pub next_index_spec : {M : Type 1} → statement M
 next_index_spec =

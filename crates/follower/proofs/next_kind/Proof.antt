@@ -16,10 +16,10 @@ add-if2 : tie.Need-overflow_add-side
 add-if2 c = search rules
 
 returns-2 : tie.Need-returns-then-kind-side
-returns-2 c = (simp (ne_eqb _ _ c.before.if-kind-eq0.false, eq-eqb _ _ c.if-kind-side.true), omega arith)
+returns-2 c = (simp (ne_eqb _ _ c.if-kind-eq0.false, eq-eqb _ _ c.if-kind-side.true), omega arith)
 
 returns-3 : tie.Need-returns-else-kind-side
-returns-3 c = (simp (ne_eqb _ _ c.before.if-kind-eq0.false, ne_eqb _ _ c.if-kind-side.false), omega arith)
+returns-3 c = (simp (ne_eqb _ _ c.if-kind-eq0.false, ne_eqb _ _ c.if-kind-side.false), omega arith)
 
 pub next_kind_spec : {M : Type 1} → statement M
 next_kind_spec = tie.close (tie.spec add-result returns add-if2 returns-2 returns-3)

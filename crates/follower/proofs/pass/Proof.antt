@@ -26,26 +26,26 @@ refuse-requires c κs = search rules
 
 returns : tie.Need-returns-then-is_fourth
 returns c =
-    let a = c.before.before.before.args in
+    let a = c.args in
     λ w.
     record {
       is = λ k.
           c.refuse.ensures
-          ∙ sym (judged_passes w.grid a.last a.passed a.port c.before.before.before.requires.0 _ _
-          ∙ cond_taken _ _ c.before.before.is_fourth.ensures c.before.if-is_fourth.true);
+          ∙ sym (judged_passes w.grid a.last a.passed a.port c.requires.0 _ _
+          ∙ cond_taken _ _ c.is_fourth.ensures c.if-is_fourth.true);
       sound = tt;
     }
 
 returns-2 : tie.Need-returns-then-kind-eq0
 returns-2 c =
-    let a = c.before.before.before.args in
+    let a = c.args in
     λ w.
     record {
       is = λ k.
-          sym (judged_passes w.grid a.last a.passed a.port c.before.before.before.requires.0 _ _
-          ∙ cond_left _ _ c.before.before.is_fourth.ensures c.before.if-is_fourth.false
+          sym (judged_passes w.grid a.last a.passed a.port c.requires.0 _ _
+          ∙ cond_left _ _ c.is_fourth.ensures c.if-is_fourth.false
           ∙ cond_taken _ _ refl (eq-eqb _ _ c.if-kind-eq0.true));
-      sound = record { port = out c.before.before.before; few = c.before.before.before.requires.2 };
+      sound = record { port = out c.before.before.before; few = c.requires.2 };
     }
 
 add-t15 : tie.Need-overflow_add-result
@@ -53,17 +53,17 @@ add-t15 c = search rules
 
 returns-3 : tie.Need-returns
 returns-3 c =
-    let a = c.before.before.before.args in
+    let a = c.args in
     λ w.
     record {
       is = λ k.
-          sym (judged_passes w.grid a.last a.passed a.port c.before.before.before.requires.0 _ _
-          ∙ cond_left _ _ c.before.before.is_fourth.ensures c.before.if-is_fourth.false
+          sym (judged_passes w.grid a.last a.passed a.port c.requires.0 _ _
+          ∙ cond_left _ _ c.is_fourth.ensures c.if-is_fourth.false
           ∙ cond_left _ _ refl (ne_eqb _ _ c.if-kind-eq0.false));
       sound =
           record {
             port = out c.before.before.before;
-            few = not_fourth a.port.kind a.passed c.before.before.before.requires.2 c.if-kind-eq0.false (sym c.before.before.is_fourth.ensures ∙ c.before.if-is_fourth.false);
+            few = not_fourth a.port.kind a.passed c.requires.2 c.if-kind-eq0.false (sym c.is_fourth.ensures ∙ c.if-is_fourth.false);
           };
     }
 

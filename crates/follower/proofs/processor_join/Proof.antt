@@ -14,8 +14,8 @@ is-dead-requires c κs = search rules
 
 returns : tie.Need-returns-then-is_dead
 returns c =
-    sym (cond_taken _ _ c.before.before.before.is_inner_fault.ensures c.before.before.if-is_inner_fault.true
-    ∙ cond_taken _ _ c.before.is_dead.ensures c.if-is_dead.true)
+    sym (cond_taken _ _ c.is_inner_fault.ensures c.if-is_inner_fault.true
+    ∙ cond_taken _ _ c.is_dead.ensures c.if-is_dead.true)
 
 fault-join-requires : tie.Need-fault_join-requires
 fault-join-requires c κs = search rules
@@ -23,11 +23,11 @@ fault-join-requires c κs = search rules
 returns-2 : tie.Need-returns-then-is_inner_fault
 returns-2 c =
     c.fault_join.ensures
-    ∙ sym (cond_taken _ _ c.before.before.before.before.is_inner_fault.ensures c.before.before.before.if-is_inner_fault.true
-    ∙ cond_left _ _ c.before.before.is_dead.ensures c.before.if-is_dead.false)
+    ∙ sym (cond_taken _ _ c.is_inner_fault.ensures c.if-is_inner_fault.true
+    ∙ cond_left _ _ c.is_dead.ensures c.if-is_dead.false)
 
 returns-3 : tie.Need-returns
-returns-3 c = sym (cond_left _ _ c.before.is_inner_fault.ensures c.if-is_inner_fault.false)
+returns-3 c = sym (cond_left _ _ c.is_inner_fault.ensures c.if-is_inner_fault.false)
 
 pub processor_join_spec : {M : Type 1} → statement M
 processor_join_spec =

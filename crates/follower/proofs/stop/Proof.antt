@@ -22,35 +22,35 @@ refuse-requires c κs = search rules
 
 returns : tie.Need-returns-then-is_fourth
 returns c =
-    let a = c.before.before.before.before.before.args in
+    let a = c.args in
     λ g.
     c.refuse.ensures
-    ∙ sym (judged_unjoined g a.last a.passed a.port c.before.before.before.before.before.requires
-    ∙ cond_taken _ _ c.before.before.is_fourth.ensures c.before.if-is_fourth.true)
+    ∙ sym (judged_unjoined g a.last a.passed a.port c.requires
+    ∙ cond_taken _ _ c.is_fourth.ensures c.if-is_fourth.true)
 
 refuse-requires-2 : tie.Need-refuse-requires-then-kind-eq0
 refuse-requires-2 c κs = search rules
 
 returns-2 : tie.Need-returns-then-kind-eq0
 returns-2 c =
-    let a = c.before.before.before.before.before.before.args in
+    let a = c.args in
     λ g.
     c.refuse-then-kind-eq0.ensures
-    ∙ sym (judged_unjoined g a.last a.passed a.port c.before.before.before.before.before.before.requires
-    ∙ cond_left _ _ c.before.before.before.is_fourth.ensures c.before.before.if-is_fourth.false
-    ∙ cond_taken _ _ refl (eq-eqb _ _ c.before.if-kind-eq0.true))
+    ∙ sym (judged_unjoined g a.last a.passed a.port c.requires
+    ∙ cond_left _ _ c.is_fourth.ensures c.if-is_fourth.false
+    ∙ cond_taken _ _ refl (eq-eqb _ _ c.if-kind-eq0.true))
 
 refuse-requires-3 : tie.Need-refuse-requires-2
 refuse-requires-3 c κs = search rules
 
 returns-3 : tie.Need-returns
 returns-3 c =
-    let a = c.before.before.before.before.before.before.args in
+    let a = c.args in
     λ g.
     c.refuse-2.ensures
-    ∙ sym (judged_unjoined g a.last a.passed a.port c.before.before.before.before.before.before.requires
-    ∙ cond_left _ _ c.before.before.before.is_fourth.ensures c.before.before.if-is_fourth.false
-    ∙ cond_left _ _ refl (ne_eqb _ _ c.before.if-kind-eq0.false))
+    ∙ sym (judged_unjoined g a.last a.passed a.port c.requires
+    ∙ cond_left _ _ c.is_fourth.ensures c.if-is_fourth.false
+    ∙ cond_left _ _ refl (ne_eqb _ _ c.if-kind-eq0.false))
 
 pub stop_spec : {M : Type 1} → statement M
 stop_spec =

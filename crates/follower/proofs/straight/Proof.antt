@@ -9,10 +9,10 @@ opposite-side-requires : tie.Need-opposite_side-requires
 opposite-side-requires c κs = search rules
 
 returns : tie.Need-returns-then-side-axis
-returns c = rw (c.opposite_side.ensures.0, ← c.before.if-side-axis.true) (turns c.before.before.args.side c.before.before.requires.1).straight
+returns c = rw (c.opposite_side.ensures.0, ← c.if-side-axis.true) (turns c.args.side c.requires.1).straight
 
 returns-2 : tie.Need-returns
-returns-2 c = not_straight c.before.args.axis c.before.args.side c.before.requires.0 c.before.requires.1 c.if-side-axis.false
+returns-2 c = not_straight c.args.axis c.args.side c.requires.0 c.requires.1 c.if-side-axis.false
 
 pub straight_spec : {M : Type 1} → statement M
 straight_spec = tie.close (tie.spec opposite-side-requires returns returns-2)

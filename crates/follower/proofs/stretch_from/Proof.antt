@@ -16,24 +16,24 @@ enum_told : tie.Need-enum_told-1
 enum_told c = search rules
 
 returns : tie.Need-returns-in_default
-returns c = let e = c.in_default.is in rw e (stretch_none _ _ _ (rw e at c.before.neighbour_of-s.ensures))
+returns c = let e = c.in_default.is in rw e (stretch_none _ _ _ (rw e at c.neighbour_of-s.ensures))
 
 is-standing-requires : tie.Need-is_standing-requires
 is-standing-requires c κs =
-    let p = c.before.before.requires in
-    let h = rw c.in-To.is at c.before.neighbour_of-s.ensures in
+    let p = c.requires in
+    let h = rw c.in-To.is at c.neighbour_of-s.ensures in
     (p.0, p.1, h.near.1, h.near.2)
 
 returns-2 : tie.Need-returns-then-is_standing
 returns-2 c =
-    let e = c.before.before.in-To.is in
-    stretch_on _ _ _ _ (rw e at c.before.before.before.neighbour_of-s.ensures) c.before.before.before.before.requires.0 c.before.before.before.before.requires.1
-    (sym c.before.is_standing.ensures ∙ c.if-is_standing.true)
+    let e = c.in-To.is in
+    stretch_on _ _ _ _ (rw e at c.neighbour_of-s.ensures) c.requires.0 c.requires.1
+    (sym c.is_standing.ensures ∙ c.if-is_standing.true)
 
 returns-3 : tie.Need-returns
 returns-3 c =
-    let e = c.before.before.in-To.is in
-    stretch_off _ _ _ _ (rw e at c.before.before.before.neighbour_of-s.ensures) (sym c.before.is_standing.ensures ∙ c.if-is_standing.false)
+    let e = c.in-To.is in
+    stretch_off _ _ _ _ (rw e at c.neighbour_of-s.ensures) (sym c.is_standing.ensures ∙ c.if-is_standing.false)
 
 pub stretch_from_spec : {M : Type 1} → statement M
 stretch_from_spec =

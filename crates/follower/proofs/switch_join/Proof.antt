@@ -30,19 +30,19 @@ add-t8 : tie.Need-overflow_add-result
 add-t8 c = search rules
 
 returns : tie.Need-returns-in-97
-returns c = rw c.before.in-97.is (c.straight.ensures ∙ ap joining (laws c.before.before).with_a)
+returns c = rw c.in-97.is (c.straight.ensures ∙ ap joining (laws c.before.before).with_a)
 
 returns-2 : tie.Need-returns-in-98
-returns-2 c = rw c.before.in-98.is (c.straight-in-98.ensures ∙ ap joining (laws c.before.before).with_b)
+returns-2 c = rw c.in-98.is (c.straight-in-98.ensures ∙ ap joining (laws c.before.before).with_b)
 
 returns-3 : tie.Need-returns-in-99
-returns-3 c = rw c.in-99.is ((turns c.before.args.side c.before.requires.2).by_c ∙ ap joining (laws c.before).with_c)
+returns-3 c = rw c.in-99.is ((turns c.args.side c.requires.2).by_c ∙ ap joining (laws c.before).with_c)
 
 returns-4 : tie.Need-returns-in-100
-returns-4 c = rw c.in-100.is ((turns c.before.args.side c.before.requires.2).by_d ∙ ap joining (laws c.before).with_d)
+returns-4 c = rw c.in-100.is ((turns c.args.side c.requires.2).by_d ∙ ap joining (laws c.before).with_d)
 
 returns-5 : tie.Need-returns-in_default
-returns-5 c = ap joining ((laws c.before).with_other c.before.args.letter (λ e. omega arith) (λ e. omega arith) (λ e. omega arith) (λ e. omega arith))
+returns-5 c = ap joining ((laws c.before).with_other c.args.letter (λ e. omega arith) (λ e. omega arith) (λ e. omega arith) (λ e. omega arith))
 
 pub switch_join_spec : {M : Type 1} → statement M
 switch_join_spec =

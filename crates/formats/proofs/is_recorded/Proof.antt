@@ -20,7 +20,7 @@ returns : tie.Need-returns-in-Fault
 returns c = λ p. rw c.in-Fault.is
 
 returns-2 : tie.Need-returns-in-Dead
-returns-2 c = λ p. rw c.before.in-Dead.is c.is_dead.ensures
+returns-2 c = λ p. rw c.in-Dead.is c.is_dead.ensures
 
 returns-3 : tie.Need-returns-in-Path
 returns-3 c = λ p. rw c.in-Path.is

@@ -10,7 +10,7 @@ returns : tie.Need-returns-then-v-lt128
 returns c = (sym (one_byte _ c.if-v-lt128.true), omega arith)
 
 returns-2 : tie.Need-returns-then-v-lt16384
-returns-2 c = (sym (two_bytes _ c.before.if-v-lt128.false c.if-v-lt16384.true), omega arith)
+returns-2 c = (sym (two_bytes _ c.if-v-lt128.false c.if-v-lt16384.true), omega arith)
 
 returns-3 : tie.Need-returns
 returns-3 c = (sym (three_bytes _ c.if-v-lt16384.false), omega arith)

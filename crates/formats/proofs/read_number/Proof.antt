@@ -12,7 +12,7 @@ refused-requires : tie.Need-refused-requires
 refused-requires c κs = search rules
 
 returns : tie.Need-returns-then-s-at
-returns c = ap told (c.refused.ensures ∙ sym (ended _ _ 2 _ c.before.if-s-at.true))
+returns c = ap told (c.refused.ensures ∙ sym (ended _ _ 2 _ c.if-s-at.true))
 
 shared-slice-read-first : tie.Need-bounds-s-at
 shared-slice-read-first c = search rules

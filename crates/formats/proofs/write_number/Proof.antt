@@ -35,31 +35,31 @@ cast-out : tie.Need-overflow_cast-out invariant-loop decreases-loop
 cast-out c = omega arith
 
 slice-write-out : tie.Need-bounds-out-at invariant-loop decreases-loop
-slice-write-out c = let i = c.before.loop-rest.invariant in omega (arith, run_room i.1 (low_first _ c.loop-rest-test.true i.0))
+slice-write-out c = let i = c.loop-rest.invariant in omega (arith, run_room i.1 (low_first _ c.loop-rest-test.true i.0))
 
 add_at : tie.Need-overflow_add-at invariant-loop decreases-loop
-add_at c = let i = c.before.loop-rest.invariant in omega (arith, run_room i.1 (low_first _ c.loop-rest-test.true i.0))
+add_at c = let i = c.loop-rest.invariant in omega (arith, run_room i.1 (low_first _ c.loop-rest-test.true i.0))
 
 loop-less : tie.Need-loop-rest-smaller invariant-loop decreases-loop
 loop-less c = omega arith
 
 loop-again : tie.Need-loop-rest-preserved invariant-loop decreases-loop
-loop-again c = let i = c.before.loop-rest.invariant in (omega (arith, i.0), run_step i.1 (low_first _ c.loop-rest-test.true i.0) refl refl)
+loop-again c = let i = c.loop-rest.invariant in (omega (arith, i.0), run_step i.1 (low_first _ c.loop-rest-test.true i.0) refl refl)
 
 cast-out-2 : tie.Need-overflow_cast-out-2 invariant-loop decreases-loop
 cast-out-2 c = search rules
 
 slice-write-out-2 : tie.Need-bounds-out-at-2 invariant-loop decreases-loop
-slice-write-out-2 c = let i = c.before.loop-rest.invariant in omega (arith, run_room i.1 (last-only _ c.loop-rest-test.false))
+slice-write-out-2 c = let i = c.loop-rest.invariant in omega (arith, run_room i.1 (last-only _ c.loop-rest-test.false))
 
 add-result : tie.Need-overflow_add-result invariant-loop decreases-loop
-add-result c = let i = c.before.loop-rest.invariant in omega (arith, run_room i.1 (last-only _ c.loop-rest-test.false))
+add-result c = let i = c.loop-rest.invariant in omega (arith, run_room i.1 (last-only _ c.loop-rest-test.false))
 
 same_length : tie.Need-shape_of-out invariant-loop decreases-loop
 same_length c = search rules
 
 returns : tie.Need-returns invariant-loop decreases-loop
-returns c = let i = c.before.loop-rest.invariant in run_end (run_step i.1 (last-only _ c.loop-rest-test.false) refl refl) refl
+returns c = let i = c.loop-rest.invariant in run_end (run_step i.1 (last-only _ c.loop-rest-test.false) refl refl) refl
 
 pub write_number_spec : {M : Type 1} → statement M
 write_number_spec =

@@ -49,19 +49,19 @@ loop-less c = search rules
 
 loop-again : tie.Need-loop-j-preserved invariant-loop decreases-loop
 loop-again c =
-    let a = c.before.before.before.before.args in
-    let j = c.before.before.before.loop-j.j in (
+    let a = c.args in
+    let j = c.loop-j.j in (
       omega arith,
       omega arith,
-      store_next a.s.now c.before.before.before.loop-j.cells (position a.row j) (position a.row (j + 1)) (a.start + j) (a.start + (j + 1)) a.end
+      store_next a.s.now c.loop-j.cells (position a.row j) (position a.row (j + 1)) (a.start + j) (a.start + (j + 1)) a.end
           (omega arith) (omega arith) (omega arith) (omega arith)
-          ∙ c.before.before.before.loop-j.invariant.2,
+          ∙ c.loop-j.invariant.2,
     )
 
 returns : tie.Need-returns invariant-loop decreases-loop
 returns c =
-    let a = c.before.before.args in
-    rw (no_slice a.s.now (a.start + c.before.loop-j.j) a.end (omega arith)) at c.before.loop-j.invariant.2
+    let a = c.args in
+    rw (no_slice a.s.now (a.start + c.loop-j.j) a.end (omega arith)) at c.loop-j.invariant.2
 
 pub copy_row_spec : {M : Type 1} → statement M
 copy_row_spec =

@@ -35,11 +35,11 @@ loop-less : tie.Need-loop-p-smaller invariant-loop decreases-loop
 loop-less c = omega arith
 
 loop-again : tie.Need-loop-p-preserved invariant-loop decreases-loop
-loop-again c = fill_step c.before.before.before.before.loop-p.invariant _ (omega arith) c.mark_of.ensures
+loop-again c = fill_step c.loop-p.invariant _ (omega arith) c.mark_of.ensures
 
 returns : tie.Need-returns invariant-loop decreases-loop
 unfolding grid_of
-returns c = fill_end c.before.loop-p.invariant (omega arith)
+returns c = fill_end c.loop-p.invariant (omega arith)
 
 pub grid_of_spec : {M : Type 1} → statement M
 grid_of_spec =

@@ -19,8 +19,8 @@ judge-mark-requires c κs = search rules
 
 returns-2 : tie.Need-returns-then-y-gt0
 returns-2 c =
-    let a = c.before.before.before.args in
-    place_later (le-leb (a.p / 32) (a.n + 1) c.before.before.if-n-x.false) _ _ (ne_eqb (a.p % 32) 0 (λ e. omega arith)) c.judge_mark.ensures
+    let a = c.args in
+    place_later (le-leb (a.p / 32) (a.n + 1) c.if-n-x.false) _ _ (ne_eqb (a.p % 32) 0 (λ e. omega arith)) c.judge_mark.ensures
 
 judge-length-requires : tie.Need-judge_length-a-requires
 judge-length-requires c κs = search rules
@@ -30,8 +30,8 @@ enum_told c = search rules
 
 returns-3 : tie.Need-returns-in-Wrong
 returns-3 c =
-    let a = c.before.before.before.before.args in
-    place_stops (le-leb (a.p / 32) (a.n + 1) c.before.before.before.if-n-x.false) _ _ (eq-eqb (a.p % 32) 0 (omega arith)) c.before.judge_length-a.ensures c.in-Wrong.is
+    let a = c.args in
+    place_stops (le-leb (a.p / 32) (a.n + 1) c.if-n-x.false) _ _ (eq-eqb (a.p % 32) 0 (omega arith)) c.judge_length-a.ensures c.in-Wrong.is
 
 enum-told-2 : tie.Need-enum_told-in_default
 enum-told-2 c = search rules
@@ -41,8 +41,8 @@ judge-mark-requires-2 c κs = search rules
 
 returns-4 : tie.Need-returns
 returns-4 c =
-    let a = c.before.before.before.before.before.args in
-    place_goes (le-leb (a.p / 32) (a.n + 1) c.before.before.before.before.if-n-x.false) _ _ (eq-eqb (a.p % 32) 0 (omega arith)) c.before.before.judge_length-a.ensures c.before.in_default.is c.judge_mark-2.ensures
+    let a = c.args in
+    place_goes (le-leb (a.p / 32) (a.n + 1) c.if-n-x.false) _ _ (eq-eqb (a.p % 32) 0 (omega arith)) c.judge_length-a.ensures c.in_default.is c.judge_mark-2.ensures
 
 pub judge_spec : {M : Type 1} → statement M
 judge_spec =

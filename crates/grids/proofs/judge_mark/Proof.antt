@@ -23,19 +23,19 @@ judge-processor-requires c κs = search rules
 
 returns : tie.Need-returns-then-is_processor_at
 returns c =
-    let a = c.before.before.before.before.args in
+    let a = c.args in
     c.judge_processor.ensures
-    ∙ ap (λ (b : Bool). processor_test b a.b a.line (a.y + 1)) c.before.is_inner_at.ensures
-    ∙ sym (cond_taken _ _ c.before.before.before.is_processor_at.ensures c.before.before.if-is_processor_at.true)
+    ∙ ap (λ (b : Bool). processor_test b a.b a.line (a.y + 1)) c.is_inner_at.ensures
+    ∙ sym (cond_taken _ _ c.is_processor_at.ensures c.if-is_processor_at.true)
 
 returns-2 : tie.Need-returns-then-b
-returns-2 c = rw (sym c.before.before.is_processor_at.ensures ∙ c.before.if-is_processor_at.false, c.if-b.true)
+returns-2 c = rw (sym c.is_processor_at.ensures ∙ c.if-is_processor_at.false, c.if-b.true)
 
 add-t13 : tie.Need-overflow_add-result
 add-t13 c = search rules
 
 returns-3 : tie.Need-returns
-returns-3 c = rw (sym c.before.before.is_processor_at.ensures ∙ c.before.if-is_processor_at.false, c.if-b.false)
+returns-3 c = rw (sym c.is_processor_at.ensures ∙ c.if-is_processor_at.false, c.if-b.false)
 
 pub judge_mark_spec : {M : Type 1} → statement M
 judge_mark_spec =

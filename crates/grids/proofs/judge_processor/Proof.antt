@@ -9,23 +9,23 @@ is-dead-letter-requires : tie.Need-is_dead_letter-requires
 is-dead-letter-requires c κs = search rules
 
 returns : tie.Need-returns-then-inner
-returns c = rw (sym c.before.before.is_dead_letter.ensures ∙ c.before.if-is_dead_letter.true, c.if-inner.true)
+returns c = rw (sym c.is_dead_letter.ensures ∙ c.if-is_dead_letter.true, c.if-inner.true)
 
 returns-2 : tie.Need-returns-then-is_dead_letter
-returns-2 c = rw (sym c.before.before.is_dead_letter.ensures ∙ c.before.if-is_dead_letter.true, c.if-inner.false)
+returns-2 c = rw (sym c.is_dead_letter.ensures ∙ c.if-is_dead_letter.true, c.if-inner.false)
 
 is-fault-requires : tie.Need-is_fault-requires
 is-fault-requires c κs = search rules
 
 returns-3 : tie.Need-returns-then-b-is_fault
 returns-3 c =
-    let d = sym c.before.before.before.is_dead_letter.ensures ∙ c.before.before.if-is_dead_letter.false in
-    rw (d, ← c.before.is_fault.ensures, c.if-b-is_fault.true)
+    let d = sym c.is_dead_letter.ensures ∙ c.if-is_dead_letter.false in
+    rw (d, ← c.is_fault.ensures, c.if-b-is_fault.true)
 
 returns-4 : tie.Need-returns
 returns-4 c =
-    let d = sym c.before.before.before.is_dead_letter.ensures ∙ c.before.before.if-is_dead_letter.false in
-    rw (d, ← c.before.is_fault.ensures, c.if-b-is_fault.false)
+    let d = sym c.is_dead_letter.ensures ∙ c.if-is_dead_letter.false in
+    rw (d, ← c.is_fault.ensures, c.if-b-is_fault.false)
 
 pub judge_processor_spec : {M : Type 1} → statement M
 judge_processor_spec =

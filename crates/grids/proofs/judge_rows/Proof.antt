@@ -47,8 +47,8 @@ enum_told c = search rules
 
 returns : tie.Need-returns-in-Wrong invariant-loop decreases-loop
 returns c =
-    let l = c.before.before.before.before.before.before.before.before.before.before.loop-p in
-    seek_stop l.invariant (omega arith) c.before.judge-a.ensures c.in-Wrong.is
+    let l = c.loop-p in
+    seek_stop l.invariant (omega arith) c.judge-a.ensures c.in-Wrong.is
 
 enum-told-2 : tie.Need-enum_told-in_default invariant-loop decreases-loop
 enum-told-2 c = search rules
@@ -61,11 +61,11 @@ loop-less c = search rules
 
 loop-again : tie.Need-loop-p-preserved invariant-loop decreases-loop
 loop-again c =
-    let l = c.before.before.before.before.before.before.before.before.before.before.loop-p in
-    seek_pass l.invariant (omega arith) c.before.judge-a.ensures c.in_default.is
+    let l = c.loop-p in
+    seek_pass l.invariant (omega arith) c.judge-a.ensures c.in_default.is
 
 returns-2 : tie.Need-returns invariant-loop decreases-loop
-returns-2 c = seek_none c.before.loop-p.invariant (omega arith)
+returns-2 c = seek_none c.loop-p.invariant (omega arith)
 
 pub judge_rows_spec : {M : Type 1} → statement M
 judge_rows_spec =

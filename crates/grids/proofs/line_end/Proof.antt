@@ -25,8 +25,8 @@ shared-slice-read-if1 c = search rules
 
 returns : tie.Need-returns-then-s-at-eq10 invariant-loop decreases-loop
 returns c =
-    let s = c.before.before.before.before.args.s.now in
-    (omega arith, omega arith, omega (arith, c.before.before.before.loop-at.invariant.2, line_stops s c.before.before.before.loop-at.at (omega arith) (eq-eqb _ _ c.if-s-at-eq10.true)))
+    let s = c.args.s.now in
+    (omega arith, omega arith, omega (arith, c.loop-at.invariant.2, line_stops s c.loop-at.at (omega arith) (eq-eqb _ _ c.if-s-at-eq10.true)))
 
 add_at : tie.Need-overflow_add-at invariant-loop decreases-loop
 add_at c = search rules
@@ -36,13 +36,13 @@ loop-less c = search rules
 
 loop-again : tie.Need-loop-at-preserved invariant-loop decreases-loop
 loop-again c =
-    let s = c.before.before.before.before.args.s.now in
-    (omega arith, omega arith, omega (arith, c.before.before.before.loop-at.invariant.2, line_on s c.before.before.before.loop-at.at (omega arith) (ne_eqb _ _ c.if-s-at-eq10.false)))
+    let s = c.args.s.now in
+    (omega arith, omega arith, omega (arith, c.loop-at.invariant.2, line_on s c.loop-at.at (omega arith) (ne_eqb _ _ c.if-s-at-eq10.false)))
 
 returns-2 : tie.Need-returns invariant-loop decreases-loop
 returns-2 c =
-    let s = c.before.before.args.s.now in
-    (omega arith, omega arith, omega (arith, c.before.loop-at.invariant.2, line_ends s c.before.loop-at.at (omega arith)))
+    let s = c.args.s.now in
+    (omega arith, omega arith, omega (arith, c.loop-at.invariant.2, line_ends s c.loop-at.at (omega arith)))
 
 pub line_end_spec : {M : Type 1} → statement M
 line_end_spec =

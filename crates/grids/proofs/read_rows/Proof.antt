@@ -8,13 +8,13 @@ use Rattle.grids.proofs.read_rows.Tie as tie
 
 returns : tie.Need-returns-then-rows-eq0
 returns c =
-    let a = c.before.args in
+    let a = c.args in
     rows_empty a.rows a.cells.now a.lengths.now a.lines.now a.grid.now c.if-rows-eq0.true
 
 returns-2 : tie.Need-returns-then-rows-lt3
 returns-2 c =
-    let a = c.before.before.args in
-    rows_few a.rows a.cells.now a.lengths.now a.lines.now a.grid.now c.before.if-rows-eq0.false (omega arith)
+    let a = c.args in
+    rows_few a.rows a.cells.now a.lengths.now a.lines.now a.grid.now c.if-rows-eq0.false (omega arith)
 
 element-copy-out-width : tie.Need-bounds-lengths-1
 element-copy-out-width c = search rules
@@ -24,7 +24,7 @@ element-copy-out-t19 c = search rules
 
 returns-3 : tie.Need-returns-then-width-lt3
 returns-3 c =
-    let a = c.before.before.before.before.before.before.before.args in
+    let a = c.args in
     rows_narrow a.rows a.cells.now a.lengths.now a.lines.now a.grid.now (omega arith) (omega arith)
 
 sub-n : tie.Need-overflow_sub-n
@@ -41,8 +41,8 @@ enum-known-a c = search rules
 
 returns-4 : tie.Need-returns-in-Wrong
 returns-4 c =
-    let a = c.before.before.before.before.before.before.before.args in
-    rows_wrong a.rows a.cells.now a.lengths.now a.lines.now a.grid.now (omega arith) (omega arith) c.before.judge_rows-a.ensures c.in-Wrong.is
+    let a = c.args in
+    rows_wrong a.rows a.cells.now a.lengths.now a.lines.now a.grid.now (omega arith) (omega arith) c.judge_rows-a.ensures c.in-Wrong.is
 
 enum_told : tie.Need-enum_told-1
 enum_told c = search rules
@@ -52,8 +52,8 @@ grid-of-requires c κs = search rules
 
 returns-5 : tie.Need-returns
 returns-5 c =
-    let a = c.before.before.before.before.before.before.before.before.args in
-    rows_read a.rows a.cells.now a.lengths.now a.lines.now a.grid.now (omega arith) (omega arith) c.before.before.judge_rows-a.ensures c.before.in_default.is
+    let a = c.args in
+    rows_read a.rows a.cells.now a.lengths.now a.lines.now a.grid.now (omega arith) (omega arith) c.judge_rows-a.ensures c.in_default.is
     c.grid_of.ensures
 
 pub read_rows_spec : {M : Type 1} → statement M

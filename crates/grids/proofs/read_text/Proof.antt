@@ -13,21 +13,21 @@ enum-known-seen : tie.Need-enum_known-seen
 enum-known-seen c = search rules
 
 read-rows-requires : tie.Need-read_rows-requires
-read-rows-requires c κs = rows_small (lines_of c.before.before.before.before.before.before.before.before.before.before.args.s.now) (rw c.before.before.before.before.in-Next.is at c.before.before.before.before.before.take_lines.ensures)
+read-rows-requires c κs = rows_small (lines_of c.args.s.now) (rw c.in-Next.is at c.take_lines.ensures)
 
 enum-known-w : tie.Need-enum_known-w
 enum-known-w c = search rules
 
 returns : tie.Need-returns-in-Next
 returns c =
-    let a = c.before.before.before.before.before.before.before.before.before.before.before.args in
+    let a = c.args in
     both
-    (text_rows a.s.now a.grid.now (rw c.before.before.before.before.before.in-Next.is at c.before.before.before.before.before.before.take_lines.ensures) c.read_rows.ensures)
+    (text_rows a.s.now a.grid.now (rw c.in-Next.is at c.take_lines.ensures) c.read_rows.ensures)
 
 returns-2 : tie.Need-returns-in-Wrong
 returns-2 c =
-    let a = c.before.before.before.before.before.before.args in
-    both (text_wrong a.s.now a.grid.now (rw c.in-Wrong.is at c.before.take_lines.ensures))
+    let a = c.args in
+    both (text_wrong a.s.now a.grid.now (rw c.in-Wrong.is at c.take_lines.ensures))
 
 pub read_text_spec : {M : Type 1} → statement M
 read_text_spec =

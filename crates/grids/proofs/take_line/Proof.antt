@@ -14,7 +14,7 @@ pass-blank-requires c κs = search rules
 
 returns : tie.Need-returns-then-end-start
 returns c =
-    let a = c.before.before.before.args in
+    let a = c.args in
     let r = rows_of a.seen a.cells.now a.lengths.now a.lines.now in
     line_blank a.line r (no_slice a.s.now a.start a.end (omega arith)) c.pass_blank.ensures
 
@@ -23,7 +23,7 @@ shared-slice-read-if2 c = search rules
 
 returns-2 : tie.Need-returns-then-s-start-eq35
 returns-2 c =
-    let a = c.before.before.before.before.args in
+    let a = c.args in
     let r = rows_of a.seen a.cells.now a.lengths.now a.lines.now in
     line_comment a.line r (slice-cons a.start a.end a.s.now 0 (omega arith) (omega arith)) c.if-s-start-eq35.true
 
@@ -32,9 +32,9 @@ take-row-requires c κs = search rules
 
 returns-3 : tie.Need-returns
 returns-3 c =
-    let a = c.before.before.before.before.before.before.before.before.args in
+    let a = c.args in
     let r = rows_of a.seen a.cells.now a.lengths.now a.lines.now in
-    line_row a.line r (slice-cons a.start a.end a.s.now 0 (omega arith) (omega arith)) c.before.before.before.before.if-s-start-eq35.false c.take_row.ensures
+    line_row a.line r (slice-cons a.start a.end a.s.now 0 (omega arith) (omega arith)) c.if-s-start-eq35.false c.take_row.ensures
 
 pub take_line_spec : {M : Type 1} → statement M
 take_line_spec =

@@ -44,21 +44,21 @@ enum_told c = search rules
 
 returns : tie.Need-returns-in_default invariant-loop decreases-loop
 returns c =
-    let s = c.before.before.before.before.before.before.before.before.before.before.args.s.now in
-    let l = c.before.before.before.before.before.before.before.before.loop-at in
+    let s = c.args.s.now in
+    let l = c.loop-at in
     let r = rows_of l.seen l.cells l.lengths l.lines in
-    let d = lines_cut s l.at (omega arith) c.before.before.before.before.before.before.line_end-stop.ensures.2 in
-    let t = c.before.before.before.before.before.trimmed-end.ensures.2 in
-    rw c.in_default.is (sym (l.invariant.2 ∙ lines_stop l.line r d t (rw c.in_default.is at c.before.take_line-a.ensures)))
+    let d = lines_cut s l.at (omega arith) c.line_end-stop.ensures.2 in
+    let t = c.trimmed-end.ensures.2 in
+    rw c.in_default.is (sym (l.invariant.2 ∙ lines_stop l.line r d t (rw c.in_default.is at c.take_line-a.ensures)))
 
 returns-2 : tie.Need-returns-then-s-stop invariant-loop decreases-loop
 returns-2 c =
-    let s = c.before.before.before.before.before.before.before.before.before.before.before.args.s.now in
-    let l = c.before.before.before.before.before.before.before.before.before.loop-at in
+    let s = c.args.s.now in
+    let l = c.loop-at in
     let r = rows_of l.seen l.cells l.lengths l.lines in
-    let d = lines_cut s l.at (omega arith) c.before.before.before.before.before.before.before.line_end-stop.ensures.2 in
-    let t = c.before.before.before.before.before.before.trimmed-end.ensures.2 in
-    sym (l.invariant.2 ∙ lines_on l.line r d t (rw c.before.in-Next.is at c.before.before.take_line-a.ensures) ∙ sym (lines_none _ _ (no_lines s (c.before.before.before.before.before.before.before.line_end-stop.result + 1) (omega arith))))
+    let d = lines_cut s l.at (omega arith) c.line_end-stop.ensures.2 in
+    let t = c.trimmed-end.ensures.2 in
+    sym (l.invariant.2 ∙ lines_on l.line r d t (rw c.in-Next.is at c.take_line-a.ensures) ∙ sym (lines_none _ _ (no_lines s (c.line_end-stop.result + 1) (omega arith))))
 
 add_at : tie.Need-overflow_add-at invariant-loop decreases-loop
 add_at c = search rules
@@ -68,15 +68,15 @@ loop-less c = search rules
 
 loop-again : tie.Need-loop-at-preserved invariant-loop decreases-loop
 loop-again c =
-    let s = c.before.before.before.before.before.before.before.before.before.before.before.args.s.now in
-    let l = c.before.before.before.before.before.before.before.before.before.loop-at in
+    let s = c.args.s.now in
+    let l = c.loop-at in
     let r = rows_of l.seen l.cells l.lengths l.lines in
-    let d = lines_cut s l.at (omega arith) c.before.before.before.before.before.before.before.line_end-stop.ensures.2 in
-    let t = c.before.before.before.before.before.before.trimmed-end.ensures.2 in
-    (omega arith, omega arith, l.invariant.2 ∙ lines_on l.line r d t (rw c.before.in-Next.is at c.before.before.take_line-a.ensures))
+    let d = lines_cut s l.at (omega arith) c.line_end-stop.ensures.2 in
+    let t = c.trimmed-end.ensures.2 in
+    (omega arith, omega arith, l.invariant.2 ∙ lines_on l.line r d t (rw c.in-Next.is at c.take_line-a.ensures))
 
 returns-3 : tie.Need-returns invariant-loop decreases-loop
-returns-3 c = let l = c.before.loop-at in sym (l.invariant.2 ∙ sym (lines_none _ _ (no_lines c.before.before.before.args.s.now l.at (omega arith))))
+returns-3 c = let l = c.loop-at in sym (l.invariant.2 ∙ sym (lines_none _ _ (no_lines c.args.s.now l.at (omega arith))))
 
 pub take_lines_spec : {M : Type 1} → statement M
 take_lines_spec =

@@ -10,14 +10,14 @@ use Rattle.grids.proofs.take_row.Tie as tie
 
 returns : tie.Need-returns-then-seen-ne0
 returns c =
-    let a = c.before.before.before.args in
+    let a = c.args in
     let l = slice a.start a.end a.s.now in
     let r = rows_of a.seen a.cells.now a.lengths.now a.lines.now in
     row_blank a.line l r c.if-seen-ne0.true
 
 returns-2 : tie.Need-returns-then-rows-ge32
 returns-2 c =
-    let a = c.before.before.before.before.args in
+    let a = c.args in
     let l = slice a.start a.end a.s.now in
     let r = rows_of a.seen a.cells.now a.lengths.now a.lines.now in
     row_many a.line l r (omega arith) (omega arith)
@@ -30,7 +30,7 @@ sub-t14 c = search rules
 
 returns-3 : tie.Need-returns-then-end-start-gt32
 returns-3 c =
-    let a = c.before.before.before.before.before.args in
+    let a = c.args in
     let l = slice a.start a.end a.s.now in
     let r = rows_of a.seen a.cells.now a.lengths.now a.lines.now in
     row_wide a.line l r (omega arith) (omega arith) (length-slice a.start a.end a.s.now (omega arith)) (omega arith)
@@ -58,10 +58,10 @@ add-t18 c = search rules
 
 returns-4 : tie.Need-returns
 returns-4 c =
-    let a = c.before.before.before.before.before.before.before.before.before.args in
+    let a = c.args in
     let l = slice a.start a.end a.s.now in
     let r = rows_of a.seen a.cells.now a.lengths.now a.lines.now in
-    row_taken a.line l r (omega arith) (omega arith) (length-slice a.start a.end a.s.now (omega arith)) (omega arith) c.before.before.copy_row.ensures
+    row_taken a.line l r (omega arith) (omega arith) (length-slice a.start a.end a.s.now (omega arith)) (omega arith) c.copy_row.ensures
 
 pub take_row_spec : {M : Type 1} → statement M
 take_row_spec =

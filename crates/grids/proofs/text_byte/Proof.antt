@@ -31,22 +31,22 @@ returns : tie.Need-returns-then-y-m
 returns c = rw (eq-eqb _ _ c.if-y-m.true)
 
 mul-character : tie.Need-overflow_mul-x
-mul-character c = let a = c.before.before.args in let r = row_low a.n a.m a.i c.before.before.requires.3 in search rules
+mul-character c = let a = c.args in let r = row_low a.n a.m a.i c.requires.3 in search rules
 
 add-character : tie.Need-overflow_add-x-2
-add-character c = let a = c.before.before.args in let r = row_low a.n a.m a.i c.before.before.requires.3 in let y = column_low a.m a.i in search rules
+add-character c = let a = c.args in let r = row_low a.n a.m a.i c.requires.3 in let y = column_low a.m a.i in search rules
 
 shared-slice-read-character : tie.Need-bounds-grid-x
-shared-slice-read-character c = let a = c.before.before.before.args in let r = row_low a.n a.m a.i c.before.before.before.requires.3 in let y = column_low a.m a.i in omega arith
+shared-slice-read-character c = let a = c.args in let r = row_low a.n a.m a.i c.requires.3 in let y = column_low a.m a.i in omega arith
 
 character-requires : tie.Need-character-requires
 character-requires c κs = search rules
 
 returns-2 : tie.Need-returns
-returns-2 c = let a = c.before.before.before.before.args in
-    let r = row_low a.n a.m a.i c.before.before.before.before.requires.3 in
+returns-2 c = let a = c.args in
+    let r = row_low a.n a.m a.i c.requires.3 in
     let y = column_low a.m a.i in
-    rw (ne_eqb _ _ c.before.before.if-y-m.false) (c.character.ensures ∙ ap character (sym (mark_read a.grid.now (position (a.i / (a.m + 3)) (a.i % (a.m + 3))) (omega arith))))
+    rw (ne_eqb _ _ c.if-y-m.false) (c.character.ensures ∙ ap character (sym (mark_read a.grid.now (position (a.i / (a.m + 3)) (a.i % (a.m + 3))) (omega arith))))
 
 pub text_byte_spec : {M : Type 1} → statement M
 text_byte_spec =

@@ -28,9 +28,9 @@ shared-slice-read-b c = search rules
 
 returns : tie.Need-returns-then-not-b invariant-loop decreases-loop
 returns c =
-    let a = c.before.before.before.before.args in
-    let k = trims_none a.s.now a.start c.before.before.before.loop-end.end (omega arith) (omega arith) (not-true _ c.if-not-b.true-raw) in
-    (omega arith, omega arith, k ∙ c.before.before.before.loop-end.invariant.2)
+    let a = c.args in
+    let k = trims_none a.s.now a.start c.loop-end.end (omega arith) (omega arith) (not-true _ c.if-not-b.true-raw) in
+    (omega arith, omega arith, k ∙ c.loop-end.invariant.2)
 
 sub-end : tie.Need-overflow_sub-end invariant-loop decreases-loop
 sub-end c = search rules
@@ -40,14 +40,14 @@ loop-less c = search rules
 
 loop-again : tie.Need-loop-end-preserved invariant-loop decreases-loop
 loop-again c =
-    let a = c.before.before.before.before.args in
-    let k = trims_one a.s.now a.start c.before.before.before.loop-end.end (omega arith) (omega arith) (not-false _ c.if-not-b.false-raw) in
-    (omega arith, omega arith, sym k ∙ c.before.before.before.loop-end.invariant.2)
+    let a = c.args in
+    let k = trims_one a.s.now a.start c.loop-end.end (omega arith) (omega arith) (not-false _ c.if-not-b.false-raw) in
+    (omega arith, omega arith, sym k ∙ c.loop-end.invariant.2)
 
 returns-2 : tie.Need-returns invariant-loop decreases-loop
 returns-2 c =
-    let a = c.before.before.args in
-    (omega arith, omega arith, trims_nothing a.s.now a.start c.before.loop-end.end (omega arith) ∙ c.before.loop-end.invariant.2)
+    let a = c.args in
+    (omega arith, omega arith, trims_nothing a.s.now a.start c.loop-end.end (omega arith) ∙ c.loop-end.invariant.2)
 
 pub trimmed_spec : {M : Type 1} → statement M
 trimmed_spec =

@@ -19,7 +19,7 @@ abbrev decreases-loop : tie.decreases-loop-i
 decreases-loop n m grid needed out₀ i₀ out i = needed - i
 
 loop-holds : tie.Need-loop-i-init invariant-loop decreases-loop
-loop-holds c = let a = c.before.before.args in (omega arith, text_start a.n a.m a.grid.now a.out.now a.needed c.before.before.requires.3 c.before.before.requires.4)
+loop-holds c = let a = c.args in (omega arith, text_start a.n a.m a.grid.now a.out.now a.needed c.requires.3 c.requires.4)
 
 text-byte-requires : tie.Need-text_byte-requires invariant-loop decreases-loop
 text-byte-requires c κs = search rules
@@ -34,13 +34,13 @@ loop-less : tie.Need-loop-i-smaller invariant-loop decreases-loop
 loop-less c = search rules
 
 loop-again : tie.Need-loop-i-preserved invariant-loop decreases-loop
-loop-again c = let a = c.before.before.before.before.before.args in (omega arith, run_step c.before.before.loop-i.invariant.1 (span_turn (text_byte a.n a.m a.grid.now) a.needed c.before.before.loop-i.i (omega arith)) refl (ap (λ (v : ℕ). set c.before.before.loop-i.out c.before.before.loop-i.i v) c.text_byte.ensures))
+loop-again c = let a = c.args in (omega arith, run_step c.loop-i.invariant.1 (span_turn (text_byte a.n a.m a.grid.now) a.needed c.loop-i.i (omega arith)) refl (ap (λ (v : ℕ). set c.loop-i.out c.loop-i.i v) c.text_byte.ensures))
 
 same_length : tie.Need-shape_of-out invariant-loop decreases-loop
 same_length c = search rules
 
 returns : tie.Need-returns invariant-loop decreases-loop
-returns c = let a = c.before.before.before.before.args in (run_end c.before.loop-i.invariant.1 (span_end (text_byte a.n a.m a.grid.now) a.needed c.before.loop-i.i (omega arith))).1
+returns c = let a = c.args in (run_end c.loop-i.invariant.1 (span_end (text_byte a.n a.m a.grid.now) a.needed c.loop-i.i (omega arith))).1
 
 pub write_marks_spec : {M : Type 1} → statement M
 write_marks_spec =

@@ -16,22 +16,22 @@ enum-known-v : tie.Need-enum_known-v
 enum-known-v c = search rules
 
 returns : tie.Need-returns-in-Refused
-returns c = let a = c.before.before.before.before.args in
-    answered told (by_tests a.n a.m a.grid.now a.out.now (sym (tests_are a.n a.m a.grid.now a.out.now) ∙ sym c.before.check_map-v.ensures ∙ c.in-Refused.is))
+returns c = let a = c.args in
+    answered told (by_tests a.n a.m a.grid.now a.out.now (sym (tests_are a.n a.m a.grid.now a.out.now) ∙ sym c.check_map-v.ensures ∙ c.in-Refused.is))
 
 enum_told : tie.Need-enum_told-1
 enum_told c = search rules
 
 write-tested-requires : tie.Need-write_tested-requires
-write-tested-requires c κs = let a = c.before.before.before.before.before.args in
-    sym (tests_are a.n a.m a.grid.now a.out.now) ∙ sym c.before.before.check_map-v.ensures ∙ c.before.in_default.is
+write-tested-requires c κs = let a = c.args in
+    sym (tests_are a.n a.m a.grid.now a.out.now) ∙ sym c.check_map-v.ensures ∙ c.in_default.is
 
 same_length : tie.Need-shape_of-out
 same_length c = search rules
 
 returns-2 : tie.Need-returns
-returns-2 c = let a = c.before.before.before.before.before.before.before.before.args in
-    answered told (c.before.before.write_tested.ensures ∙ by_room a.n a.m a.grid.now a.out.now (sym (tests_are a.n a.m a.grid.now a.out.now) ∙ sym c.before.before.before.before.before.check_map-v.ensures ∙ c.before.before.before.before.in_default.is))
+returns-2 c = let a = c.args in
+    answered told (c.write_tested.ensures ∙ by_room a.n a.m a.grid.now a.out.now (sym (tests_are a.n a.m a.grid.now a.out.now) ∙ sym c.check_map-v.ensures ∙ c.in_default.is))
 
 pub write_text_spec : {M : Type 1} → statement M
 write_text_spec =

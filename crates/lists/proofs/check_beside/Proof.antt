@@ -69,7 +69,7 @@ check-paths-requires c κs = let p = (start c.before).requires.0 in (may_start c
 returns-2 : tie.Need-returns
 returns-2 c =
     let a = (start c.before.before).args in
-    verdict_passes (tested c.before.before) _ c.before.in_default.is
+    verdict_passes (tested c.before.before) _ c.in_default.is
     (c.check_paths.ensures ∙ ap (paths_test a.n a.m a.grid.now) (is-listed c.before))
 
 pub check_beside_spec : {M : Type 1} → statement M

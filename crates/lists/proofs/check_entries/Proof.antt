@@ -26,8 +26,8 @@ decreases-loop starts positions ds count listed both k₀ k = both - k
 abbrev start : tie.At-loop-k invariant-loop decreases-loop → tie.Start invariant-loop decreases-loop
 start l = l.before.before.before.before.before
 
-least : (l : tie.At-loop-k invariant-loop decreases-loop) → let a = (start l).args in Lower (length a.starts.now) (length a.positions.now) l.before.lower_of-both.result
-least l = lower_is _ _ _ l.before.lower_of-both.ensures
+least : (l : tie.At-loop-k invariant-loop decreases-loop) → let a = (start l).args in Lower (length a.starts.now) (length a.positions.now) l.lower_of-both.result
+least l = lower_is _ _ _ l.lower_of-both.ensures
 
 -- the faults listed
 abbrev listed : tie.At-loop-k invariant-loop decreases-loop → List Fault
@@ -50,7 +50,7 @@ turn e =
     l.loop-k.invariant.1
     ∙ listed_turn a.starts.now (listed l) (fault 0 0) k (omega (arith, (least l).left)) (omega (arith, (least l).right, listed_length l))
     ∙ ap (λ (f : Fault). or_else (entry_test (get_or a.starts.now k 0) f) later) (paired_at _ _ k (fault 0 0) (start l).requires (omega (arith, (least l).right)))
-    ∙ ap (λ (p : ℕ). or_else (entry_test p (fault_at a.positions.now a.ds.now k)) later) (sym e.before.before.before.wide.ensures)
+    ∙ ap (λ (p : ℕ). or_else (entry_test p (fault_at a.positions.now a.ds.now k)) later) (sym e.wide.ensures)
     ∙ ap (λ (v : Verdict). or_else v later) (sym e.check_entry-v.ensures)
 
 lower-of-requires : tie.Need-lower_of-both-requires invariant-loop decreases-loop
@@ -118,10 +118,10 @@ wide-requires-2 c κs = search rules
 returns-2 : tie.Need-returns-then-both-count invariant-loop decreases-loop
 returns-2 c =
     let starts = (start c.before.before.before.before).args.starts.now in
-    let e : c.before.before.before.before.before.lower_of-both.result ≡ c.before.before.before.before.loop-k.k = omega arith in
+    let e : c.lower_of-both.result ≡ c.loop-k.k = omega arith in
     ap (λ (p : ℕ). refuse 4 p 0) (c.wide-then-both-count.ensures ∙ ap (λ (k : ℕ). get_or starts k 0) e)
-    ∙ sym (c.before.before.before.before.loop-k.invariant.1
-    ∙ listed_missing starts (listed c.before.before.before.before) (fault 0 0) c.before.before.before.before.loop-k.k (omega arith)
+    ∙ sym (c.loop-k.invariant.1
+    ∙ listed_missing starts (listed c.before.before.before.before) (fault 0 0) c.loop-k.k (omega arith)
     (omega (arith, listed_length c.before.before.before.before, (least c.before.before.before.before).not_left (omega arith))))
 
 mul-t25 : tie.Need-offset_bounds-positions-both invariant-loop decreases-loop
@@ -133,16 +133,16 @@ shared-slice-read-t27 c = omega arith
 returns-3 : tie.Need-returns-then-both-listed invariant-loop decreases-loop
 returns-3 c =
     let positions = (start c.before.before.before.before).args.positions.now in
-    let e : c.before.before.before.before.before.lower_of-both.result ≡ c.before.before.before.before.loop-k.k = omega arith in
+    let e : c.lower_of-both.result ≡ c.loop-k.k = omega arith in
     ap (λ (k : ℕ). refuse 4 (get_or positions k 0) 0) e
-    ∙ ap (λ (f : Fault). refuse 4 f.position 0) (sym (paired_at positions _ c.before.before.before.before.loop-k.k (fault 0 0) (start c.before.before.before.before).requires (omega arith)))
-    ∙ sym (c.before.before.before.before.loop-k.invariant.1
-    ∙ listed_beyond _ (listed c.before.before.before.before) (fault 0 0) c.before.before.before.before.loop-k.k (omega (arith, (least c.before.before.before.before).not_right (omega arith))) (omega (arith, listed_length c.before.before.before.before)))
+    ∙ ap (λ (f : Fault). refuse 4 f.position 0) (sym (paired_at positions _ c.loop-k.k (fault 0 0) (start c.before.before.before.before).requires (omega arith)))
+    ∙ sym (c.loop-k.invariant.1
+    ∙ listed_beyond _ (listed c.before.before.before.before) (fault 0 0) c.loop-k.k (omega (arith, (least c.before.before.before.before).not_right (omega arith))) (omega (arith, listed_length c.before.before.before.before)))
 
 returns-4 : tie.Need-returns invariant-loop decreases-loop
 returns-4 c =
-    sym (c.before.before.before.loop-k.invariant.1
-    ∙ listed_end _ (listed c.before.before.before) c.before.before.before.loop-k.k (omega arith) (omega (arith, listed_length c.before.before.before)))
+    sym (c.loop-k.invariant.1
+    ∙ listed_end _ (listed c.before.before.before) c.loop-k.k (omega arith) (omega (arith, listed_length c.before.before.before)))
 
 pub check_entries_spec : {M : Type 1} → statement M
 check_entries_spec =

@@ -14,13 +14,13 @@ lower-of-requires c κs = search rules
 
 returns : tie.Need-returns-then-position-p
 returns c =
-    let a = c.before.before.args in
+    let a = c.args in
     ap (λ (p : ℕ). refuse 4 p 0) c.lower_of.ensures
-    ∙ ap (λ (b : Bool). refuse_if b 4 (lower a.p a.position) 0) (sym c.before.if-position-p.true)
+    ∙ ap (λ (b : Bool). refuse_if b 4 (lower a.p a.position) 0) (sym c.if-position-p.true)
 
 returns-2 : tie.Need-returns
 returns-2 c =
-    let a = c.before.args in
+    let a = c.args in
     ap (λ (b : Bool). refuse_if b 4 (lower a.p a.position) 0) (sym c.if-position-p.false)
 
 pub check_entry_spec : {M : Type 1} → statement M

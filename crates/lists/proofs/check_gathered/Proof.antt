@@ -75,14 +75,14 @@ check-beside-requires : tie.Need-check_beside-requires
 check-beside-requires c κs =
     let s = start c.before.before.before.before.before.before.before in
     let f = map c.before.before.before.before.before.before in (
-      record { rows = f.sizes.rows_high; columns = f.sizes.columns_high; grid_long = f.length_is; in_order = c.before.before.before.before.list_faults-found.ensures.front },
+      record { rows = f.sizes.rows_high; columns = f.sizes.columns_high; grid_long = f.length_is; in_order = c.list_faults-found.ensures.front },
       directions_long s ∙ sym (positions-long s),
     )
 
 returns-2 : tie.Need-returns
 unfolding check_fault_list
 returns-2 c =
-    verdict_passes (tested c.before.before.before.before.before.before.before.before) _ c.before.before.before.before.before.before.before.in_default.is c.check_beside.ensures
+    verdict_passes (tested c.before.before.before.before.before.before.before.before) _ c.in_default.is c.check_beside.ensures
 
 pub check_gathered_spec : {M : Type 1} → statement M
 check_gathered_spec =

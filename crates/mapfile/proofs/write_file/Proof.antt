@@ -10,13 +10,13 @@ use borrow.Author.Rules.{rules}
 use Rattle.mapfile.proofs.write_file.Statement.{statement}
 use Rattle.mapfile.proofs.write_file.Tie as tie
 
-within : (c : tie.In-Length) → c.in-Length.k ≤ length c.before.before.before.write_map-a.new.out
+within : (c : tie.In-Length) → c.in-Length.k ≤ length c.write_map-a.new.out
 within c =
-    let a = c.before.before.before.before.before.before.before.args in
+    let a = c.args in
     omega (
       arith,
-      map_within _ _ _ a.file.now c.before.before.before.write_map-a.result c.in-Length.k c.before.before.before.write_map-a.ensures.0 c.in-Length.is,
-      c.before.before.before.write_map-a.auto.out,
+      map_within _ _ _ a.file.now c.write_map-a.result c.in-Length.k c.write_map-a.ensures.0 c.in-Length.is,
+      c.write_map-a.auto.out,
     )
 
 write-map-requires : tie.Need-write_map-a-requires
@@ -29,7 +29,7 @@ slice-reshare-prefix-write-all : tie.Need-slice_bounds-write_all-end
 slice-reshare-prefix-write-all c = within c
 
 slice-aggregate-write-all : tie.Need-slice_bounds-write_all-end-in-Length
-slice-aggregate-write-all c = sym (length-take-le c.in-Length.k c.before.before.before.write_map-a.new.out (within c))
+slice-aggregate-write-all c = sym (length-take-le c.in-Length.k c.write_map-a.new.out (within c))
 
 write-all-requires : tie.Need-write_all-requires
 write-all-requires c κs = search rules

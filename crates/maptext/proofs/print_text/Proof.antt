@@ -10,13 +10,13 @@ use borrow.Author.Rules.{rules}
 use Rattle.maptext.proofs.print_text.Statement.{statement}
 use Rattle.maptext.proofs.print_text.Tie as tie
 
-within : (c : tie.In-Length) → c.in-Length.k ≤ length c.before.before.before.write_text-a.new.out
+within : (c : tie.In-Length) → c.in-Length.k ≤ length c.write_text-a.new.out
 within c =
-    let a = c.before.before.before.before.before.before.before.args in
+    let a = c.args in
     omega (
       arith,
-      text_within a.n a.m a.grid.now a.text.now c.before.before.before.write_text-a.result c.in-Length.k c.before.before.before.write_text-a.ensures.0 c.in-Length.is,
-      c.before.before.before.write_text-a.auto.out,
+      text_within a.n a.m a.grid.now a.text.now c.write_text-a.result c.in-Length.k c.write_text-a.ensures.0 c.in-Length.is,
+      c.write_text-a.auto.out,
     )
 
 write-text-requires : tie.Need-write_text-a-requires
@@ -29,7 +29,7 @@ slice-reshare-prefix-write-all : tie.Need-slice_bounds-write_all-end
 slice-reshare-prefix-write-all c = within c
 
 slice-aggregate-write-all : tie.Need-slice_bounds-write_all-end-in-Length
-slice-aggregate-write-all c = sym (length-take-le c.in-Length.k c.before.before.before.write_text-a.new.out (within c))
+slice-aggregate-write-all c = sym (length-take-le c.in-Length.k c.write_text-a.new.out (within c))
 
 write-all-requires : tie.Need-write_all-requires
 write-all-requires c κs = search rules

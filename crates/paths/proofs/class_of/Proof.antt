@@ -15,12 +15,12 @@ excess-requires c κs = search rules
 
 returns : tie.Need-returns-then-class-gt4
 returns c =
-    (class_above c.before.before.args.first c.before.before.args.second c.before.before.requires.0 c.before.before.requires.1 (omega (arith, c.before.excess-class.ensures)), omega arith)
+    (class_above c.args.first c.args.second c.requires.0 c.requires.1 (omega (arith, c.excess-class.ensures)), omega arith)
 
 returns-2 : tie.Need-returns-else-class-gt4
 returns-2 c =
-    let e = c.before.excess-class.ensures in
-    (e ∙ class_within c.before.before.args.first c.before.before.args.second c.before.before.requires.0 c.before.before.requires.1 (omega (arith, e)), omega arith)
+    let e = c.excess-class.ensures in
+    (e ∙ class_within c.args.first c.args.second c.requires.0 c.requires.1 (omega (arith, e)), omega arith)
 
 pub class_of_spec : {M : Type 1} → statement M
 class_of_spec = tie.close (tie.spec add-excess excess-requires returns returns-2)

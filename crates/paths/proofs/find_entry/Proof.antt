@@ -40,11 +40,11 @@ element-copy-out-result c = omega arith
 
 returns : tie.Need-returns
 returns c =
-    let p = c.before.before.before.before.requires.1 in
-    let q = c.before.before.before.before.requires.2 in
-    let x = c.before.before.before.class_of.ensures in
-    let y = c.before.before.class_of-2.ensures in
-    rw (← x.0, ← y.0) (c.before.before.before.before.requires.0.right _ _ _ _ p.low p.high q.low q.high x.1 y.1)
+    let p = c.requires.1 in
+    let q = c.requires.2 in
+    let x = c.class_of.ensures in
+    let y = c.class_of-2.ensures in
+    rw (← x.0, ← y.0) (c.requires.0.right _ _ _ _ p.low p.high q.low q.high x.1 y.1)
 
 pub find_entry_spec : {M : Type 1} → statement M
 find_entry_spec =

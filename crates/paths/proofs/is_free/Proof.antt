@@ -30,7 +30,7 @@ length-of-requires c κs = search rules
 loop-holds : tie.Need-loop-k-init invariant-loop decreases-loop
 loop-holds c =
     let s = long c.before.before in
-    let a = c.before.before.args in
+    let a = c.args in
     (omega arith, open_start a.n a.m a.grid.now a.p a.d (omega arith))
 
 step-ahead-requires : tie.Need-step_ahead-requires invariant-loop decreases-loop
@@ -44,11 +44,11 @@ is-faulty-requires c κs = search rules
 
 returns : tie.Need-returns-then-is_faulty invariant-loop decreases-loop
 returns c =
-    let a = c.before.before.before.before.before.before.before.before.args in
-    let r = c.before.before.before.step_ahead in
-    sym (c.before.before.before.before.before.loop-k.invariant.1
-    ∙ open_by_mark a.n a.m a.grid.now a.p a.d c.before.before.before.before.before.loop-k.k r.result (omega arith) r.ensures.0 (omega (arith, r.ensures.1))
-    c.before.is_faulty.ensures c.if-is_faulty.true)
+    let a = c.args in
+    let r = c.step_ahead in
+    sym (c.loop-k.invariant.1
+    ∙ open_by_mark a.n a.m a.grid.now a.p a.d c.loop-k.k r.result (omega arith) r.ensures.0 (omega (arith, r.ensures.1))
+    c.is_faulty.ensures c.if-is_faulty.true)
 
 add-k : tie.Need-overflow_step-k invariant-loop decreases-loop
 add-k c = omega arith
@@ -58,18 +58,18 @@ loop-less c = omega arith
 
 loop-again : tie.Need-loop-k-preserved invariant-loop decreases-loop
 loop-again c =
-    let a = c.before.before.before.before.before.before.before.before.args in
-    let r = c.before.before.before.step_ahead in (
+    let a = c.args in
+    let r = c.step_ahead in (
       omega arith,
-      c.before.before.before.before.before.loop-k.invariant.1
-          ∙ open_by_mark a.n a.m a.grid.now a.p a.d c.before.before.before.before.before.loop-k.k r.result (omega arith) r.ensures.0 (omega (arith, r.ensures.1))
-          c.before.is_faulty.ensures c.if-is_faulty.false,
+      c.loop-k.invariant.1
+          ∙ open_by_mark a.n a.m a.grid.now a.p a.d c.loop-k.k r.result (omega arith) r.ensures.0 (omega (arith, r.ensures.1))
+          c.is_faulty.ensures c.if-is_faulty.false,
     )
 
 returns-2 : tie.Need-returns invariant-loop decreases-loop
 returns-2 c =
-    let a = c.before.before.before.before.args in
-    sym (c.before.loop-k.invariant.1 ∙ open_end a.n a.m a.grid.now a.p a.d c.before.loop-k.k (omega arith))
+    let a = c.args in
+    sym (c.loop-k.invariant.1 ∙ open_end a.n a.m a.grid.now a.p a.d c.loop-k.k (omega arith))
 
 pub is_free_spec : {M : Type 1} → statement M
 is_free_spec =

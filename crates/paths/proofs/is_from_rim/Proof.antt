@@ -16,7 +16,7 @@ returns-3 c = rw c.in-3.is
 returns-4 : tie.Need-returns-in_default
 returns-4 c =
     let r = c.in_default.in_default-own.rest in
-    rw (west_left c.before.requires r.0.0.1 r.0.1 r.1)
+    rw (west_left c.requires r.0.0.1 r.0.1 r.1)
 
 pub is_from_rim_spec : {M : Type 1} → statement M
 is_from_rim_spec = tie.close (tie.spec returns returns-2 returns-3 returns-4)

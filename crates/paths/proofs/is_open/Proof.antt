@@ -26,15 +26,15 @@ start-by : (n m p d : ℕ) (grid : List ℕ) (r s : Bool) → p < length grid �
 start-by n m p d grid r s h e f = rw (mark_read grid p h, ← e, ← f) (started r s)
 
 start_of : (c : tie.After-is_from_rim)
-    → let a = c.before.before.before.before.args in
-    may_start a.n a.m a.grid.now a.p a.d ≡ not (c.before.is_dead.result && not c.is_from_rim.result)
+    → let a = c.args in
+    may_start a.n a.m a.grid.now a.p a.d ≡ not (c.is_dead.result && not c.is_from_rim.result)
 start_of c =
-    let a = c.before.before.before.before.args in
-    start-by a.n a.m a.p a.d a.grid.now _ _ (omega (arith, start_inner c.before.before.before.before.requires.0)) c.before.is_dead.ensures
+    let a = c.args in
+    start-by a.n a.m a.p a.d a.grid.now _ _ (omega (arith, start_inner c.requires.0)) c.is_dead.ensures
     c.is_from_rim.ensures
 
 shared-slice-read-is-dead : tie.Need-bounds-grid-p
-shared-slice-read-is-dead c = omega (arith, start_inner c.before.before.requires.0)
+shared-slice-read-is-dead c = omega (arith, start_inner c.requires.0)
 
 is-dead-requires : tie.Need-is_dead-requires
 is-dead-requires c κs = search rules
@@ -45,7 +45,7 @@ is-from-rim-requires c κs = search rules
 returns : tie.Need-returns-then-is_dead-is_from_rim
 unfolding is_open
 returns c =
-    let a = c.before.before.before.before.before.args in
+    let a = c.args in
     let s = start_of c.before ∙ ap not c.if-is_dead-is_from_rim.true in
     sym (ap (λ (b : Bool). b && is_free a.n a.m a.grid.now a.p a.d) s)
 
@@ -55,8 +55,8 @@ is-free-requires c κs = search rules
 returns-2 : tie.Need-returns
 unfolding is_open
 returns-2 c =
-    let a = c.before.before.before.before.before.before.args in
-    let s = start_of c.before.before ∙ ap not c.before.if-is_dead-is_from_rim.false in
+    let a = c.args in
+    let s = start_of c.before.before ∙ ap not c.if-is_dead-is_from_rim.false in
     c.is_free.ensures ∙ sym (ap (λ (b : Bool). b && is_free a.n a.m a.grid.now a.p a.d) s)
 
 pub is_open_spec : {M : Type 1} → statement M

@@ -10,7 +10,7 @@ add-result : tie.Need-overflow_add-result
 add-result c = search rules
 
 sub-result : tie.Need-overflow_sub-result
-sub-result c = omega (arith, start_inner c.before.requires)
+sub-result c = omega (arith, start_inner c.requires)
 
 add-result-2 : tie.Need-overflow_add-result-in-2
 add-result-2 c = search rules
@@ -19,7 +19,7 @@ add-result-3 : tie.Need-overflow_add-result-in-3
 add-result-3 c = search rules
 
 sub-result-2 : tie.Need-overflow_sub-result-in-3
-sub-result-2 c = omega (arith, start_inner c.before.requires)
+sub-result-2 c = omega (arith, start_inner c.requires)
 
 add-result-4 : tie.Need-overflow_add-result-in_default
 add-result-4 c = search rules
@@ -36,7 +36,7 @@ returns-3 c = rw c.in-3.is
 returns-4 : tie.Need-returns-in_default
 returns-4 c =
     let r = c.in_default.in_default-own.rest in
-    rw (west_left c.before.requires r.0.0.1 r.0.1 r.1)
+    rw (west_left c.requires r.0.0.1 r.0.1 r.1)
 
 pub length_of_spec : {M : Type 1} → statement M
 length_of_spec =

@@ -21,11 +21,11 @@ abbrev decreases-loop : tie.decreases-loop-p
 decreases-loop n m grid directions p₀ p = 1024 - p
 
 -- the test at p, as the code answers it
-tested : (c : tie.After-is_wrong invariant-loop decreases-loop) → let a = c.before.before.before.before.before.before.before.args in let p = c.before.before.before.before.loop-p.p in
+tested : (c : tie.After-is_wrong invariant-loop decreases-loop) → let a = c.args in let p = c.loop-p.p in
     c.is_wrong.result ≡ wrong_direction (inner_fault a.n a.m a.grid.now p) (get_or a.directions.now p 0)
 tested c =
-    let a = c.before.before.before.before.before.before.before.args in
-    let p = c.before.before.before.before.loop-p.p in
+    let a = c.args in
+    let p = c.loop-p.p in
     c.is_wrong.ensures
     ∙ ap (λ (x : ℕ). wrong_direction (inner_faulty a.n a.m p x) (get_or a.directions.now p 0))
     (sym (mark_read a.grid.now p (omega arith)))
@@ -43,7 +43,7 @@ is-wrong-requires : tie.Need-is_wrong-requires invariant-loop decreases-loop
 is-wrong-requires c κs = search rules
 
 returns : tie.Need-returns-then-is_wrong invariant-loop decreases-loop
-returns c = seek_stop_if c.before.before.before.before.before.loop-p.invariant 4 _ 0 (omega arith) refl (tested c.before) c.if-is_wrong.true
+returns c = seek_stop_if c.loop-p.invariant 4 _ 0 (omega arith) refl (tested c.before) c.if-is_wrong.true
 
 add-p : tie.Need-overflow_step-p invariant-loop decreases-loop
 add-p c = omega arith
@@ -52,10 +52,10 @@ loop-less : tie.Need-loop-p-smaller invariant-loop decreases-loop
 loop-less c = omega arith
 
 loop-again : tie.Need-loop-p-preserved invariant-loop decreases-loop
-loop-again c = seek_pass_if c.before.before.before.before.before.loop-p.invariant 4 _ 0 (omega arith) refl (tested c.before) c.if-is_wrong.false
+loop-again c = seek_pass_if c.loop-p.invariant 4 _ 0 (omega arith) refl (tested c.before) c.if-is_wrong.false
 
 returns-2 : tie.Need-returns invariant-loop decreases-loop
-returns-2 c = seek_none c.before.loop-p.invariant (omega arith)
+returns-2 c = seek_none c.loop-p.invariant (omega arith)
 
 pub check_directions_spec : {M : Type 1} → statement M
 check_directions_spec =

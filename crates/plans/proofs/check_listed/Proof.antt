@@ -27,12 +27,12 @@ is-room t =
 
 take-directions-requires : tie.Need-take_directions-requires
 take-directions-requires c κs =
-    let a = c.before.before.before.before.before.args in (
-      c.before.before.before.before.before.requires.2,
+    let a = c.args in (
+      c.requires.2,
       λ k h.
-          let l : k < length (faults a.n a.m a.grid.now) = omega (arith, h, ap length c.before.before.before.before.before.requires.1) in
-          let low = fault_below a.n a.m a.grid.now c.before.before.before.before.before.requires.0.sound.grid_long k l in
-          omega (arith, low, c.before.before.before.before.before.requires.0.sound.directions_long, ap (λ (x : List ℕ). get_or x k 0) c.before.before.before.before.before.requires.1),
+          let l : k < length (faults a.n a.m a.grid.now) = omega (arith, h, ap length c.requires.1) in
+          let low = fault_below a.n a.m a.grid.now c.requires.0.sound.grid_long k l in
+          omega (arith, low, c.requires.0.sound.directions_long, ap (λ (x : List ℕ). get_or x k 0) c.requires.1),
     )
 
 check-paths-requires : tie.Need-check_paths-requires

@@ -21,15 +21,15 @@ shared-slice-read-is-open c = search rules
 
 is-open-requires : tie.Need-is_open-requires
 is-open-requires c κs =
-    (rw c.before.wide-p.ensures (c.before.before.before.before.before.before.requires.0.each c.before.before.before.before.before.before.args.k c.before.before.before.before.before.before.requires.1), c.before.before.before.before.before.before.requires.2)
+    (rw c.wide-p.ensures (c.requires.0.each c.args.k c.requires.1), c.requires.2)
 
 returns : tie.Need-returns-then-not-is_open
 returns c =
-    rw c.before.before.before.wide-p.ensures (sym (cond_taken _ _ (ap not (rw c.before.before.before.wide-p.ensures at c.before.is_open.ensures)) c.if-not-is_open.true-raw))
+    rw c.wide-p.ensures (sym (cond_taken _ _ (ap not (rw c.wide-p.ensures at c.is_open.ensures)) c.if-not-is_open.true-raw))
 
 returns-2 : tie.Need-returns
 returns-2 c =
-    sym (cond_left _ _ (ap not (rw c.before.before.before.wide-p.ensures at c.before.is_open.ensures)) c.if-not-is_open.false-raw)
+    sym (cond_left _ _ (ap not (rw c.wide-p.ensures at c.is_open.ensures)) c.if-not-is_open.false-raw)
 
 pub check_open_at_spec : {M : Type 1} → statement M
 check_open_at_spec =

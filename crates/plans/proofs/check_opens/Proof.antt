@@ -28,17 +28,17 @@ abbrev decreases-loop : tie.decreases-loop-k
 decreases-loop n m grid starts ds count k₀ k = length starts - k
 
 loop-holds : tie.Need-loop-k-init invariant-loop decreases-loop
-loop-holds c = seek_start (faults_scan _ _ c.before.before.before.requires.0.same _) 0 (omega arith)
+loop-holds c = seek_start (faults_scan _ _ c.requires.0.same _) 0 (omega arith)
 
 check-open-at-requires : tie.Need-check_open_at-v-requires invariant-loop decreases-loop
-check-open-at-requires c κs = let s = c.before.before.before.before.before.requires in (s.0, omega arith, s.1)
+check-open-at-requires c κs = let s = c.requires in (s.0, omega arith, s.1)
 
 enum_told : tie.Need-enum_told-1 invariant-loop decreases-loop
 enum_told c = search rules
 
 returns : tie.Need-returns-in-Refused invariant-loop decreases-loop
 returns c =
-    seek_stop c.before.before.before.loop-k.invariant (omega arith) c.before.check_open_at-v.ensures c.in-Refused.is
+    seek_stop c.loop-k.invariant (omega arith) c.check_open_at-v.ensures c.in-Refused.is
 
 enum-told-2 : tie.Need-enum_told-in_default invariant-loop decreases-loop
 enum-told-2 c = search rules
@@ -51,10 +51,10 @@ loop-less c = omega arith
 
 loop-again : tie.Need-loop-k-preserved invariant-loop decreases-loop
 loop-again c =
-    seek_pass c.before.before.before.loop-k.invariant (omega arith) c.before.check_open_at-v.ensures c.in_default.is
+    seek_pass c.loop-k.invariant (omega arith) c.check_open_at-v.ensures c.in_default.is
 
 returns-2 : tie.Need-returns invariant-loop decreases-loop
-returns-2 c = seek_none c.before.loop-k.invariant (omega arith)
+returns-2 c = seek_none c.loop-k.invariant (omega arith)
 
 pub check_opens_spec : {M : Type 1} → statement M
 check_opens_spec =

@@ -14,7 +14,7 @@ shared-slice-read-if1 c = search rules
 
 returns : tie.Need-returns-then-ds-j-eq1
 returns c n m grid s o =
-    south_accepted s c.before.before.before.before.before.before.args.i c.before.before.before.before.before.before.args.j c.before.before.before.before.before.before.requires.3 c.before.before.before.before.before.before.requires.4 o c.if-ds-j-eq1.true
+    south_accepted s c.args.i c.args.j c.requires.3 c.requires.4 o c.if-ds-j-eq1.true
 
 shared-slice-read-find-entry : tie.Need-bounds-rows-i
 shared-slice-read-find-entry c = search rules
@@ -36,10 +36,10 @@ shared-slice-read-find-entry-6 c = search rules
 
 find-entry-requires : tie.Need-find_entry-found-requires
 find-entry-requires c κs =
-    let h = c.before.before.before.before.before.before.before.before.before.before.before.before.requires in
-    let i = c.before.before.before.before.before.before.before.before.before.before.before.before.args.i in
-    let j = c.before.before.before.before.before.before.before.before.before.before.before.before.args.j in
-    let low : i < length c.before.before.before.before.before.before.before.before.before.before.before.before.args.starts.now = omega (arith, h.3, h.4) in
+    let h = c.requires in
+    let i = c.args.i in
+    let j = c.args.j in
+    let low : i < length c.args.starts.now = omega (arith, h.3, h.4) in
     (h.0, path_beside h.1 i _ low (h.2.each i low), path_beside h.1 j _ h.4 (h.2.each j h.4))
 
 mul_wide : tie.Need-offset_bounds-starts-i
@@ -65,9 +65,9 @@ check-clash-requires c κs = search rules
 
 returns-2 : tie.Need-returns
 returns-2 c n m grid s o =
-    let h = c.before.before.before.before.before.before.before.before.before.before.before.before.before.before.before.before.before.before.requires in
-    let r = rw (c.before.before.before.wide.ensures, c.before.wide-2.ensures) at c.check_clash.ensures in
-    r ∙ byte_is_test s c.before.before.before.before.before.before.before.before.before.before.before.before.before.before.before.before.before.before.args.i c.before.before.before.before.before.before.before.before.before.before.before.before.before.before.before.before.before.before.args.j h.3 h.4 h.1 _ c.before.before.before.before.before.find_entry-found.ensures
+    let h = c.requires in
+    let r = rw (c.wide.ensures, c.wide-2.ensures) at c.check_clash.ensures in
+    r ∙ byte_is_test s c.args.i c.args.j h.3 h.4 h.1 _ c.find_entry-found.ensures
 
 pub check_pair_at_spec : {M : Type 1} → statement M
 check_pair_at_spec =

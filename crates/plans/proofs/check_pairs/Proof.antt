@@ -61,12 +61,12 @@ add-j : tie.Need-overflow_step-j invariant-loop decreases-loop invariant-pairs d
 add-j c = omega arith
 
 loop-holds : tie.Need-loop-j-init invariant-loop decreases-loop invariant-pairs decreases-pairs
-loop-holds c = ((λ n m g s o. seek_start (faults_scan _ _ s.same _) _ (omega arith)), c.before.pairs.invariant.1, omega arith)
+loop-holds c = ((λ n m g s o. seek_start (faults_scan _ _ s.same _) _ (omega arith)), c.pairs.invariant.1, omega arith)
 
 check-pair-at-requires : tie.Need-check_pair_at-v-requires invariant-loop decreases-loop invariant-pairs decreases-pairs
 check-pair-at-requires c κs =
-    let s = c.before.before.before.before.before.before.before.before.before.before.requires in
-    (c.before.before.before.before.before.clash_table-table.ensures.0, s.0, s.1, c.before.before.loop-j.invariant.2, omega arith)
+    let s = c.requires in
+    (c.clash_table-table.ensures.0, s.0, s.1, c.loop-j.invariant.2, omega arith)
 
 enum_told : tie.Need-enum_told-1 invariant-loop decreases-loop invariant-pairs decreases-pairs
 enum_told c = search rules
@@ -82,8 +82,8 @@ loop-less c = omega arith
 
 loop-again : tie.Need-loop-j-preserved invariant-loop decreases-loop invariant-pairs decreases-pairs
 loop-again c =
-    let v = c.before.before.before.before.loop-j.invariant in (
-      (λ n m g s o. seek_pass (v.0 n m g s o) (omega arith) (c.before.check_pair_at-v.ensures n m g s o) c.in_default.is),
+    let v = c.loop-j.invariant in (
+      (λ n m g s o. seek_pass (v.0 n m g s o) (omega arith) (c.check_pair_at-v.ensures n m g s o) c.in_default.is),
       v.1,
       omega arith,
     )
@@ -96,16 +96,16 @@ pairs-less c = omega arith
 
 pairs-again : tie.Need-pairs-preserved invariant-loop decreases-loop invariant-pairs decreases-pairs
 pairs-again c =
-    let v = c.before.before.before.pairs.invariant in
-    ((λ n m g s o. seek_pass (v.0 n m g s o) (omega arith) (seek_none (c.before.loop-j.invariant.0 n m g s o) (omega arith)) refl), c.before.loop-j.invariant.1)
+    let v = c.pairs.invariant in
+    ((λ n m g s o. seek_pass (v.0 n m g s o) (omega arith) (seek_none (c.loop-j.invariant.0 n m g s o) (omega arith)) refl), c.loop-j.invariant.1)
 
 returns : tie.Need-returns-after-pairs invariant-loop decreases-loop invariant-pairs decreases-pairs
-returns c n m g s o = c.before.pairs.invariant.1 ∙ seek_none (c.before.pairs.invariant.0 n m g s o) (omega arith)
+returns c n m g s o = c.pairs.invariant.1 ∙ seek_none (c.pairs.invariant.0 n m g s o) (omega arith)
 
 returns-2 : tie.Need-returns-in-Refused invariant-loop decreases-loop invariant-pairs decreases-pairs
 returns-2 c n m g s o =
     let e = c.in-Refused.is in
-    seek_stop (c.before.before.before.before.before.before.pairs.invariant.0 n m g s o) (omega arith) (seek_stop (c.before.before.before.before.loop-j.invariant.0 n m g s o) (omega arith) (c.before.check_pair_at-v.ensures n m g s o) e) e
+    seek_stop (c.pairs.invariant.0 n m g s o) (omega arith) (seek_stop (c.loop-j.invariant.0 n m g s o) (omega arith) (c.check_pair_at-v.ensures n m g s o) e) e
 
 pub check_pairs_spec : {M : Type 1} → statement M
 check_pairs_spec =

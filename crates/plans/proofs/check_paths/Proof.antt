@@ -19,24 +19,24 @@ enum_told c = search rules
 
 returns : tie.Need-returns-in-Refused
 unfolding paths_test
-returns c = verdict_stops c.before.check_opens-open.ensures _ c.in-Refused.is
+returns c = verdict_stops c.check_opens-open.ensures _ c.in-Refused.is
 
 enum-told-2 : tie.Need-enum_told-in_default
 enum-told-2 c = search rules
 
 check-placed-requires : tie.Need-check_placed-requires
 check-placed-requires c κs =
-    let h = c.before.before.before.before.before.requires in
-    let a = c.before.before.before.before.before.args in
+    let h = c.requires in
+    let a = c.args in
     (starts_paths h.0, omega (arith, ap length h.2, faults_short a.n a.m a.grid.now, h.1))
 
 returns-2 : tie.Need-returns
 unfolding paths_test
 returns-2 c =
-    let h = c.before.before.before.before.before.before.requires in
-    let e = c.before.before.check_opens-open.ensures in
-    let passed = open_faults h.0 h.2 (sym e ∙ c.before.in_default.is) in
-    verdict_passes e _ c.before.in_default.is (c.check_placed.ensures _ _ _ h.0 passed)
+    let h = c.requires in
+    let e = c.check_opens-open.ensures in
+    let passed = open_faults h.0 h.2 (sym e ∙ c.in_default.is) in
+    verdict_passes e _ c.in_default.is (c.check_placed.ensures _ _ _ h.0 passed)
 
 pub check_paths_spec : {M : Type 1} → statement M
 check_paths_spec =

@@ -13,7 +13,7 @@ slice-aggregate-note-places-2 c = search rules
 
 note-places-requires : tie.Need-note_places-requires
 note-places-requires c κs =
-    let h = c.before.before.before.before.requires in
+    let h = c.requires in
     (h.1, h.1, λ i l. let p = h.0.each i l in omega (arith, p.row_high))
 
 slice-aggregate-check-pairs : tie.Need-slice_bounds-check_pairs-end
@@ -24,7 +24,7 @@ slice-aggregate-check-pairs-2 c = search rules
 
 check-pairs-requires : tie.Need-check_pairs-requires
 check-pairs-requires c κs =
-    (c.before.before.before.before.note_places.ensures, c.before.before.before.before.before.before.before.before.before.requires.0)
+    (c.note_places.ensures, c.requires.0)
 
 returns : tie.Need-returns
 returns c = c.check_pairs.ensures

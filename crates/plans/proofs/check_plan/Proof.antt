@@ -15,7 +15,7 @@ check-tests-requires c κs = λ h. let b = and_true _ _ h in (eqb-true _ _ b.0, 
 
 returns : tie.Need-returns
 returns c =
-    let a = c.before.before.before.args in
+    let a = c.args in
     ap told (c.check_tests.ensures
     ∙ ap (λ (r : Bool). plan_tests a.n a.m (long a.grid.now && r) a.grid.now a.directions.now)
     (sym (and_one (long a.directions.now))))

@@ -19,21 +19,21 @@ list-faults-requires : tie.Need-list_faults-count-requires
 list-faults-requires c κs = search rules
 
 slice-reshare-prefix-check-listed : tie.Need-slice_bounds-check_listed-end
-slice-reshare-prefix-check-listed c = c.before.before.list_faults-count.ensures.fits
+slice-reshare-prefix-check-listed c = c.list_faults-count.ensures.fits
 
 slice-aggregate-check-listed : tie.Need-slice_bounds-check_listed-end-2
-slice-aggregate-check-listed c = c.before.before.list_faults-count.ensures.size
+slice-aggregate-check-listed c = c.list_faults-count.ensures.size
 
 slice-relend-prefix-check-listed : tie.Need-slice_bounds-check_listed-end-3
 slice-relend-prefix-check-listed c =
-    omega (arith, c.before.before.list_faults-count.ensures.short, (start c.before.before).requires.2)
+    omega (arith, c.list_faults-count.ensures.short, (start c.before.before).requires.2)
 
 slice-aggregate-check-listed-2 : tie.Need-slice_bounds-check_listed-end-4
 slice-aggregate-check-listed-2 c = sym (room-long c.before.before.before)
 
 check-listed-requires : tie.Need-check_listed-requires
 check-listed-requires c κs =
-    let l = c.before.before.before.list_faults-count.ensures in
+    let l = c.list_faults-count.ensures in
     ((start c.before.before.before).requires.0, l.front, room-long c.before.before.before ∙ l.size)
 
 same_length : tie.Need-shape_of-starts

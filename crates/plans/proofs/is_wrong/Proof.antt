@@ -24,12 +24,12 @@ is-inner-fault-requires : tie.Need-is_inner_fault-fault-requires
 is-inner-fault-requires c κs = search rules
 
 returns : tie.Need-returns-then-d-eq0
-returns c = rw (c.before.is_inner_fault-fault.ensures, c.if-d-eq0.true) (none-wrong _)
+returns c = rw (c.is_inner_fault-fault.ensures, c.if-d-eq0.true) (none-wrong _)
 
 returns-2 : tie.Need-returns
 returns-2 c =
-    let a = c.before.before.args in
-    rw (c.before.is_inner_fault-fault.ensures, ne_eqb _ _ c.if-d-eq0.false)
+    let a = c.args in
+    rw (c.is_inner_fault-fault.ensures, ne_eqb _ _ c.if-d-eq0.false)
     (some-wrong (ltb 4 a.d) (inner_faulty a.n a.m a.p a.mark))
 
 pub is_wrong_spec : {M : Type 1} → statement M

@@ -47,21 +47,21 @@ loop-less c = omega arith
 
 loop-again : tie.Need-loop-p-preserved invariant-loop decreases-loop
 loop-again c =
-    let s = c.before.before.before.before.loop-p.invariant in
-    let e = c.before.is_inner_fault.ensures in
+    let s = c.loop-p.invariant in
+    let e = c.is_inner_fault.ensures in
     ⊎_elim
     (λ w. rw (w.out-is, w.count-is) (collect_take s _ (omega arith) (rw e at w.if-is_inner_fault.true) refl))
     (λ w. rw (w.out-is, w.count-is) (collect_skip s (omega arith) (rw e at w.if-is_inner_fault.false)))
     c.if-is_inner_fault.branch-raw
 
 same_length : tie.Need-shape_of-out invariant-loop decreases-loop
-same_length c = c.before.loop-p.invariant.long
+same_length c = c.loop-p.invariant.long
 
 returns : tie.Need-returns invariant-loop decreases-loop
 unfolding faults
 returns c =
-    listing c.before.before.before.before.requires.0 (collect_count c.before.loop-p.invariant (omega arith))
-    (collect_list c.before.loop-p.invariant (omega arith))
+    listing c.requires.0 (collect_count c.loop-p.invariant (omega arith))
+    (collect_list c.loop-p.invariant (omega arith))
 
 pub list_faults_spec : {M : Type 1} → statement M
 list_faults_spec =

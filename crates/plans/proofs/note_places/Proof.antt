@@ -28,7 +28,7 @@ shared-slice-read-p c = omega arith
 
 cast-rows : tie.Need-overflow_cast-rows invariant-loop decreases-loop
 cast-rows c =
-    omega (arith, c.before.before.before.requires.2 c.before.before.loop-k.k (omega arith))
+    omega (arith, c.requires.2 c.loop-k.k (omega arith))
 
 slice-write-rows : tie.Need-bounds-rows-k invariant-loop decreases-loop
 slice-write-rows c = omega arith
@@ -47,21 +47,21 @@ loop-less c = omega arith
 
 loop-again : tie.Need-loop-k-preserved invariant-loop decreases-loop
 loop-again c =
-    let v = c.before.before.loop-k.invariant in
+    let v = c.loop-k.invariant in
     let r = v.1.long in
     let q = v.2.long in
     (omega arith, fill_step v.1 _ (omega arith) refl, fill_step v.2 _ (omega arith) refl)
 
 same_length : tie.Need-shape_of-rows invariant-loop decreases-loop
-same_length c = c.before.loop-k.invariant.1.long
+same_length c = c.loop-k.invariant.1.long
 
 same-length-2 : tie.Need-shape_of-columns invariant-loop decreases-loop
-same-length-2 c = c.before.loop-k.invariant.2.long
+same-length-2 c = c.loop-k.invariant.2.long
 
 returns : tie.Need-returns invariant-loop decreases-loop
 returns c =
-    let v = c.before.loop-k.invariant in
-    let s = c.before.before.requires in
+    let v = c.loop-k.invariant in
+    let s = c.requires in
     record {
       rows_long = omega (arith, s.0, v.1.long);
       columns_long = omega (arith, s.1, v.2.long);

@@ -30,7 +30,7 @@ wide-requires c κs = search rules
 
 shared-slice-read-out : tie.Need-bounds-directions-wide invariant-loop decreases-loop
 shared-slice-read-out c =
-    omega (arith, c.before.wide.ensures, c.before.before.before.before.before.before.before.before.requires.1 c.before.before.before.before.loop-k.k (omega arith))
+    omega (arith, c.wide.ensures, c.requires.1 c.loop-k.k (omega arith))
 
 slice-write-out : tie.Need-bounds-out-k invariant-loop decreases-loop
 slice-write-out c = omega arith
@@ -43,13 +43,13 @@ loop-less c = omega arith
 
 loop-again : tie.Need-loop-k-preserved invariant-loop decreases-loop
 loop-again c =
-    fill_step c.before.before.before.before.loop-k.invariant _ (omega arith) (ap (λ (x : ℕ). get_or c.before.before.before.before.before.before.before.before.args.directions.now x 0) c.before.wide.ensures)
+    fill_step c.loop-k.invariant _ (omega arith) (ap (λ (x : ℕ). get_or c.args.directions.now x 0) c.wide.ensures)
 
 same_length : tie.Need-shape_of-out invariant-loop decreases-loop
-same_length c = omega (arith, c.before.loop-k.invariant.long)
+same_length c = omega (arith, c.loop-k.invariant.long)
 
 returns : tie.Need-returns invariant-loop decreases-loop
-returns c = fill_end c.before.loop-k.invariant (omega arith) ∙ directions_filled _ _
+returns c = fill_end c.loop-k.invariant (omega arith) ∙ directions_filled _ _
 
 pub take_directions_spec : {M : Type 1} → statement M
 take_directions_spec =

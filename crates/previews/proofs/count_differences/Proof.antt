@@ -11,44 +11,44 @@ use borrow.Author.Tests.{ne_eqb, eq-eqb}
 use Rattle.previews.proofs.count_differences.Statement.{statement}
 use Rattle.previews.proofs.count_differences.Tie as tie
 
-abbrev invariant-loop : tie.invariant-loop
+abbrev invariant-loop : tie.invariant-loop-p
 invariant-loop a b count₀ p₀ count p = Counting (differs b) a p count
 
-abbrev decreases-loop : tie.decreases-loop
+abbrev decreases-loop : tie.decreases-loop-p
 decreases-loop a b count₀ p₀ count p = 1024 - p
 
-loop-holds : tie.Need-loop-init invariant-loop decreases-loop
+loop-holds : tie.Need-loop-p-init invariant-loop decreases-loop
 loop-holds c = count_start _ _
 
-array-read-if1 : tie.Need-array-read-if1 invariant-loop decreases-loop
+array-read-if1 : tie.Need-bounds-a-p invariant-loop decreases-loop
 array-read-if1 c = omega arith
 
-array-read-if1-2 : tie.Need-array-read-if1-2 invariant-loop decreases-loop
+array-read-if1-2 : tie.Need-bounds-b-p invariant-loop decreases-loop
 array-read-if1-2 c = omega arith
 
-add-count : tie.Need-overflow-add-count invariant-loop decreases-loop
+add-count : tie.Need-overflow_add-count invariant-loop decreases-loop
 add-count c = omega arith
 
-add-p : tie.Need-overflow-add-p invariant-loop decreases-loop
+add-p : tie.Need-overflow_step-p invariant-loop decreases-loop
 add-p c = omega arith
 
-loop-less : tie.Need-loop-smaller invariant-loop decreases-loop
+loop-less : tie.Need-loop-p-smaller invariant-loop decreases-loop
 loop-less c = omega arith
 
-loop-again : tie.Need-loop-preserved invariant-loop decreases-loop
+loop-again : tie.Need-loop-p-preserved invariant-loop decreases-loop
 loop-again c =
-    let s = c.before.before.loop.invariant in
+    let s = c.loop-p.invariant in
     ⊎_elim
-    (λ w. rw w.1 (count_take s (omega arith) refl (ap not (ne_eqb _ _ w.0.taken))))
-    (λ w. rw w.1 (count_skip s (omega arith) refl (ap not (eq-eqb _ _ w.0.left))))
-    c.if1.branch
+    (λ w. rw w.count-is (count_take s (omega arith) refl (ap not (ne_eqb _ _ w.if-a-p.true))))
+    (λ w. rw w.count-is (count_skip s (omega arith) refl (ap not (eq-eqb _ _ w.if-a-p.false))))
+    c.if-a-p.branch-raw
 
 returns : tie.Need-returns invariant-loop decreases-loop
 unfolding differences
-returns c = (count_end c.before.loop.invariant (omega arith), omega arith)
+returns c = (count_end c.loop-p.invariant (omega arith), omega arith)
 
-pub count-differences-spec : {M : Type 1} → statement M
-count-differences-spec =
+pub count_differences_spec : {M : Type 1} → statement M
+count_differences_spec =
     tie.close
     (tie.spec
     invariant-loop

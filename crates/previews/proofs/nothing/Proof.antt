@@ -9,5 +9,5 @@ returns : tie.Need-returns
 unfolding span
 returns c = refl
 
-pub nothing-spec : {M : Type 1} → statement M
-nothing-spec = tie.close (tie.spec returns)
+pub nothing_spec : {M : Type 1} → statement M
+nothing_spec = tie.close (tie.spec returns)

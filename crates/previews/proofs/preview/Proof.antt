@@ -10,50 +10,45 @@ use Rattle.previews.proofs.preview.Tie as tie
 wide : (c : tie.Start) → Wide c.args.s
 wide c = search rules
 
-report-requires : tie.Need-report-requires
+report-requires : tie.Need-report-r-requires
 report-requires c κs = search rules
 
-enum_told : tie.Need-enum-told
+enum_told : tie.Need-enum_told-1
 enum_told c = search rules
 
-nothing-requires : tie.Need-nothing-requires
+nothing-requires : tie.Need-nothing-none-requires
 nothing-requires c κs = search rules
 
-returns : tie.Need-returns
+returns : tie.Need-returns-in-Refused
 returns c =
-    let r = c.before.before.before in
-    let a = r.before.args in
-    let v = r.report.result.answer in
-    let e = r.report.ensures in (
+    let a = c.args in
+    let v = c.report-r.result.answer in
+    let e = c.report-r.ensures in (
       e.0,
-      c.nothing.ensures
-          ∙ refused_foretells a.s a.failing a.position v e.0 c.before.enum_told.given.1,
+      c.nothing-none.ensures
+          ∙ refused_foretells a.s a.failing a.position v e.0 c.in-Refused.is,
     )
 
-enum-told-2 : tie.Need-enum-told-2
+enum-told-2 : tie.Need-enum_told-in_default
 enum-told-2 c = search rules
 
-array-read-t16 : tie.Need-array-read-t16
+array-read-t16 : tie.Need-bounds-directions-position
 array-read-t16 c =
-    let l = c.before.before.before.before.before.before in
-    let r = l.before.before in
-    let a = r.before.args in
-    let v = r.report.result.answer in
-    accepted_below a.s a.failing a.position v r.report.ensures.0 l.enum-told2.given.1 (wide r.before)
+    let a = c.args in
+    let v = c.report-r.result.answer in
+    accepted_below a.s a.failing a.position v c.report-r.ensures.0 c.in_default.is (wide c.before.before.before.before.before.before.before.before)
 
-returns-2 : tie.Need-returns-2
+returns-2 : tie.Need-returns
 returns-2 c =
-    let l = c.before.before.before.before.before.before in
-    let r = l.before.before in
-    let a = r.before.args in
-    let v = r.report.result.answer in
-    let e = r.report.ensures in (
+    let a = c.args in
+    let v = c.report-r.result.answer in
+    let e = c.report-r.ensures in (
       e.0,
-      accepted_foretells a.s a.failing a.position v e.0 l.enum-told2.given.1 e.1,
+      accepted_foretells a.s a.failing a.position v e.0 c.in_default.is e.1,
     )
 
-pub preview-spec : {M : Type 1} → statement M
-preview-spec =
+pub preview_spec : {M : Type 1} → statement M
+preview_spec =
     tie.close
     (tie.spec
     report-requires

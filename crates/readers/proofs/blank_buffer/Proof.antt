@@ -30,7 +30,7 @@ loop-holds : tie.Need-loop-x-init invariant-loop2 decreases-loop2 invariant-loop
 loop-holds c = fill_start _ _ refl
 
 loop2-holds : tie.Need-loop-y-init invariant-loop2 decreases-loop2 invariant-loop decreases-loop
-loop2-holds c = (omega arith, as-far _ (omega arith) c.before.loop-x.invariant)
+loop2-holds c = (omega arith, as-far _ (omega arith) c.loop-x.invariant)
 
 blank-mark-requires : tie.Need-blank_mark-requires invariant-loop2 decreases-loop2 invariant-loop decreases-loop
 blank-mark-requires c κs = search rules
@@ -52,7 +52,7 @@ loop2-less c = omega arith
 
 loop2-again : tie.Need-loop-y-preserved invariant-loop2 decreases-loop2 invariant-loop decreases-loop
 loop2-again c =
-    (omega arith, as-far _ (omega arith) (fill_step c.before.before.loop-y.invariant.1 _ (omega arith) c.blank_mark.ensures))
+    (omega arith, as-far _ (omega arith) (fill_step c.loop-y.invariant.1 _ (omega arith) c.blank_mark.ensures))
 
 add-x : tie.Need-overflow_step-x invariant-loop2 decreases-loop2 invariant-loop decreases-loop
 add-x c = omega arith
@@ -61,11 +61,11 @@ loop-less : tie.Need-loop-x-smaller invariant-loop2 decreases-loop2 invariant-lo
 loop-less c = omega arith
 
 loop-again : tie.Need-loop-x-preserved invariant-loop2 decreases-loop2 invariant-loop decreases-loop
-loop-again c = as-far _ (omega (arith, c.before.loop-y.invariant.0)) c.before.loop-y.invariant.1
+loop-again c = as-far _ (omega (arith, c.loop-y.invariant.0)) c.loop-y.invariant.1
 
 returns : tie.Need-returns invariant-loop2 decreases-loop2 invariant-loop decreases-loop
 returns c =
-    let a = c.before.before.args in fill_end c.before.loop-x.invariant (omega arith) ∙ sym (blank_is a.kind a.n a.m)
+    let a = c.args in fill_end c.loop-x.invariant (omega arith) ∙ sym (blank_is a.kind a.n a.m)
 
 pub blank_buffer_spec : {M : Type 1} → statement M
 blank_buffer_spec =

@@ -16,20 +16,20 @@ is-processor-at-requires c κs = search rules
 
 returns : tie.Need-returns-then-is_processor_at
 returns c =
-    let a = c.before.before.before.args in
+    let a = c.args in
     let x : row (position a.x a.y) ≡ a.x = omega arith in
     let y : column (position a.x a.y) ≡ a.y = omega arith in
-    rw (c.before.before.in-Map.is, x, y) (sym (cond_taken _ _ c.before.is_processor_at.ensures c.if-is_processor_at.true))
+    rw (c.in-Map.is, x, y) (sym (cond_taken _ _ c.is_processor_at.ensures c.if-is_processor_at.true))
 
 enum-told-2 : tie.Need-enum_told-in-Plan
 enum-told-2 c = search rules
 
 returns-2 : tie.Need-returns-else-is_processor_at
 returns-2 c =
-    let a = c.before.before.before.args in
+    let a = c.args in
     let x : row (position a.x a.y) ≡ a.x = omega arith in
     let y : column (position a.x a.y) ≡ a.y = omega arith in
-    rw (c.before.before.in-Map.is, x, y) (sym (cond_left _ _ c.before.is_processor_at.ensures c.if-is_processor_at.false))
+    rw (c.in-Map.is, x, y) (sym (cond_left _ _ c.is_processor_at.ensures c.if-is_processor_at.false))
 
 returns-3 : tie.Need-returns-in-Plan
 returns-3 c = search rules

@@ -31,13 +31,13 @@ loop-less : tie.Need-loop-p-smaller invariant-loop decreases-loop
 loop-less c = omega arith
 
 loop-again : tie.Need-loop-p-preserved invariant-loop decreases-loop
-loop-again c = fill_step c.before.loop-p.invariant _ (omega arith) refl
+loop-again c = fill_step c.loop-p.invariant _ (omega arith) refl
 
 same_length : tie.Need-shape_of-to invariant-loop decreases-loop
 same_length c = search rules
 
 returns : tie.Need-returns invariant-loop decreases-loop
-returns c = fill_end c.before.loop-p.invariant (omega arith) ∙ copied _ _ (search rules)
+returns c = fill_end c.loop-p.invariant (omega arith) ∙ copied _ _ (search rules)
 
 pub copy_spec : {M : Type 1} → statement M
 copy_spec =

@@ -20,10 +20,10 @@ enum-told-3 : tie.Need-enum_told-in-Path
 enum-told-3 c = search rules
 
 returns : tie.Need-returns-in-Fault
-returns c = rw c.before.in-Fault.is c.is_faulty.ensures
+returns c = rw c.in-Fault.is c.is_faulty.ensures
 
 returns-2 : tie.Need-returns-in-Dead
-returns-2 c = rw c.before.in-Dead.is c.is_faulty-in-Dead.ensures
+returns-2 c = rw c.in-Dead.is c.is_faulty-in-Dead.ensures
 
 returns-3 : tie.Need-returns-in-Path
 returns-3 c = rw c.in-Path.is

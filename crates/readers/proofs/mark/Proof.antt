@@ -26,19 +26,19 @@ same_length : tie.Need-shape_of-b-in-Fault
 same_length c = search rules
 
 returns : tie.Need-returns-in-Fault
-returns c = rw c.before.before.before.before.in-Fault.is c.before.before.mark_one.ensures
+returns c = rw c.in-Fault.is c.mark_one.ensures
 
 same-length-2 : tie.Need-shape_of-b-in-Dead
 same-length-2 c = search rules
 
 returns-2 : tie.Need-returns-in-Dead
-returns-2 c = rw c.before.before.before.before.in-Dead.is c.before.before.mark_one-in-Dead.ensures
+returns-2 c = rw c.in-Dead.is c.mark_one-in-Dead.ensures
 
 same-length-3 : tie.Need-shape_of-b-in-Path
 same-length-3 c = search rules
 
 returns-3 : tie.Need-returns-in-Path
-returns-3 c = rw c.before.before.before.before.in-Path.is c.before.before.mark_one-in-Path.ensures
+returns-3 c = rw c.in-Path.is c.mark_one-in-Path.ensures
 
 pub mark_spec : {M : Type 1} → statement M
 mark_spec =

@@ -15,28 +15,28 @@ use Rattle.readers.proofs.mark_one.Statement.{statement}
 use Rattle.readers.proofs.mark_one.Tie as tie
 
 -- what the first and the third test say
-stands : (c : tie.Else-not-may_stand) → c.before.may_stand.result ≡ true
+stands : (c : tie.Else-not-may_stand) → c.may_stand.result ≡ true
 stands c = not-false _ c.if-not-may_stand.false-raw
 
-placed : (c : tie.Else-not-may_stand) → let a = c.before.before.before.args in (a.x ≤ a.n + 1) × (a.y ≤ a.m + 1)
-placed c = stands_within c.before.before.before.args.kind _ _ _ _ (sym c.before.may_stand.ensures ∙ stands c)
+placed : (c : tie.Else-not-may_stand) → let a = c.args in (a.x ≤ a.n + 1) × (a.y ≤ a.m + 1)
+placed c = stands_within c.args.kind _ _ _ _ (sym c.may_stand.ensures ∙ stands c)
 
-fits : (c : tie.Else-not-may_write) → let a = c.before.before.before.before.before.before.before.before.args in is_value a.kind a.v ≡ true
-fits c = sym c.before.may_write.ensures ∙ not-false _ c.if-not-may_write.false-raw
+fits : (c : tie.Else-not-may_write) → let a = c.args in is_value a.kind a.v ≡ true
+fits c = sym c.may_write.ensures ∙ not-false _ c.if-not-may_write.false-raw
 
-small : (c : tie.Else-not-may_write) → c.before.before.before.before.before.before.before.before.args.v ≤ 4
-small c = value_low c.before.before.before.before.before.before.before.before.args.kind _ (fits c)
+small : (c : tie.Else-not-may_write) → c.args.v ≤ 4
+small c = value_low c.args.kind _ (fits c)
 
 -- what is left after the first three tests
 left-to-order :
     (c : tie.Else-not-may_write) →
-    let a = c.before.before.before.before.before.before.before.before.args in
+    let a = c.args in
     marked a.kind a.n a.m a.at a.before a.x a.y a.v a.next a.b.now
     ≡ mark_in_order a.at a.before (position a.x a.y) a.v a.next a.b.now
 left-to-order c =
-    let a = c.before.before.before.before.before.before.before.before.args in
+    let a = c.args in
     marked_in_order a.kind a.n a.m a.at a.before a.x a.y a.v a.next a.b.now
-    (sym c.before.before.before.before.before.before.may_stand.ensures ∙ stands c.before.before.before.before.before) (sym c.before.before.before.is_repeated-repeated.ensures ∙ c.before.before.if-repeated.false) (fits c)
+    (sym c.may_stand.ensures ∙ stands c.before.before.before.before.before) (sym c.is_repeated-repeated.ensures ∙ c.if-repeated.false) (fits c)
 
 may-stand-requires : tie.Need-may_stand-requires
 may-stand-requires c κs = search rules
@@ -49,8 +49,8 @@ no-record-requires c κs = search rules
 
 returns : tie.Need-returns-then-not-may_stand
 returns c =
-    rw (c.no_record.ensures, c.before.off_number.ensures)
-    (sym (cond_left _ _ c.before.before.before.may_stand.ensures (not-true _ c.before.before.if-not-may_stand.true-raw)))
+    rw (c.no_record.ensures, c.off_number.ensures)
+    (sym (cond_left _ _ c.may_stand.ensures (not-true _ c.if-not-may_stand.true-raw)))
 
 mul-p : tie.Need-overflow_mul-p
 mul-p c =
@@ -74,8 +74,8 @@ returns-2 : tie.Need-returns-then-repeated
 returns-2 c =
     rw c.no_record-then-repeated.ensures
     (sym
-    (cond_taken _ _ c.before.before.before.before.before.may_stand.ensures (stands c.before.before.before.before)
-    ∙ cond_taken _ _ c.before.before.is_repeated-repeated.ensures c.before.if-repeated.true))
+    (cond_taken _ _ c.may_stand.ensures (stands c.before.before.before.before)
+    ∙ cond_taken _ _ c.is_repeated-repeated.ensures c.if-repeated.true))
 
 may-write-requires : tie.Need-may_write-requires
 may-write-requires c κs = search rules
@@ -87,16 +87,16 @@ returns-3 : tie.Need-returns-then-not-may_write
 returns-3 c =
     rw c.no_record-then-not-may_write.ensures
     (sym
-    (cond_taken _ _ c.before.before.before.before.before.before.before.may_stand.ensures (stands c.before.before.before.before.before.before)
-    ∙ cond_left _ _ c.before.before.before.before.is_repeated-repeated.ensures c.before.before.before.if-repeated.false
-    ∙ cond_left _ _ c.before.before.may_write.ensures (not-true _ c.before.if-not-may_write.true-raw)))
+    (cond_taken _ _ c.may_stand.ensures (stands c.before.before.before.before.before.before)
+    ∙ cond_left _ _ c.is_repeated-repeated.ensures c.if-repeated.false
+    ∙ cond_left _ _ c.may_write.ensures (not-true _ c.if-not-may_write.true-raw)))
 
 no-record-requires-4 : tie.Need-no_record-requires-then-lower
 no-record-requires-4 c κs = search rules
 
 returns-4 : tie.Need-returns-then-lower
 returns-4 c =
-    rw c.no_record-then-lower.ensures (sym (left-to-order c.before.before ∙ cond_taken _ _ refl c.before.if-lower.true-raw))
+    rw c.no_record-then-lower.ensures (sym (left-to-order c.before.before ∙ cond_taken _ _ refl c.if-lower.true-raw))
 
 cast-b : tie.Need-overflow_cast-b
 cast-b c =

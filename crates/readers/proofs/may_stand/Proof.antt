@@ -23,13 +23,13 @@ is-inner-at-requires-2 : tie.Need-is_inner_at-requires-in-Path
 is-inner-at-requires-2 c κs = search rules
 
 returns : tie.Need-returns-in-Fault
-returns c = rw c.before.in-Fault.is c.is_processor_at.ensures
+returns c = rw c.in-Fault.is c.is_processor_at.ensures
 
 returns-2 : tie.Need-returns-in-Dead
-returns-2 c = rw c.before.in-Dead.is c.is_inner_at.ensures
+returns-2 c = rw c.in-Dead.is c.is_inner_at.ensures
 
 returns-3 : tie.Need-returns-in-Path
-returns-3 c = rw c.before.in-Path.is c.is_inner_at-in-Path.ensures
+returns-3 c = rw c.in-Path.is c.is_inner_at-in-Path.ensures
 
 pub may_stand_spec : {M : Type 1} → statement M
 may_stand_spec =

@@ -33,20 +33,20 @@ same_length c = search rules
 
 returns : tie.Need-returns-in-Next
 returns c =
-    let a = c.before.before.before.before.before.before.before.before.before.before.before.before.args in
-    c.before.before.read_rest.ensures c.before.before.before.before.in-Next.field-1
+    let a = c.args in
+    c.read_rest.ensures c.in-Next.field-1
     ∙ ap (rest_at a.kind a.s.now a.head a.lent.now)
-    (rw (c.before.before.before.before.in-Next.is, c.before.before.before.before.before.before.before.before.first_list-first.ensures, c.before.before.before.before.before.before.before.before.before.blank_buffer-b.ensures) at
-    c.before.before.before.before.before.before.read_records.ensures)
+    (rw (c.in-Next.is, c.first_list-first.ensures, c.blank_buffer-b.ensures) at
+    c.read_records.ensures)
 
 returns-2 : tie.Need-returns-in-Refused
 returns-2 c =
-    let a = c.before.before.before.before.before.before.before.before.args in
+    let a = c.args in
     sym
     (rest_refused a.s.now a.head a.lent.now a.kind _ _
     (sym
-    (rw (c.in-Refused.is, c.before.before.before.before.first_list-first.ensures, c.before.before.before.before.before.blank_buffer-b.ensures) at
-    c.before.before.read_records.ensures)))
+    (rw (c.in-Refused.is, c.first_list-first.ensures, c.blank_buffer-b.ensures) at
+    c.read_records.ensures)))
 
 pub read_body_spec : {M : Type 1} → statement M
 read_body_spec =

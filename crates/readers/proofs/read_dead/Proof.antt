@@ -27,12 +27,12 @@ same_length c = search rules
 
 returns : tie.Need-returns-in-Next
 returns c =
-    c.before.before.fill.ensures c.before.before.before.before.in-Next.field-1
-    ∙ ap (whole_file _ _ _ _) (rw c.before.before.before.before.in-Next.is at c.before.before.before.before.before.before.read_records.ensures)
+    c.fill.ensures c.in-Next.field-1
+    ∙ ap (whole_file _ _ _ _) (rw c.in-Next.is at c.read_records.ensures)
 
 returns-2 : tie.Need-returns-in-Refused
 returns-2 c =
-    sym (whole_refused _ _ _ _ _ _ (sym (rw c.in-Refused.is at c.before.before.read_records.ensures)))
+    sym (whole_refused _ _ _ _ _ _ (sym (rw c.in-Refused.is at c.read_records.ensures)))
 
 pub read_dead_spec : {M : Type 1} → statement M
 read_dead_spec =

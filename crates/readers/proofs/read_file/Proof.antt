@@ -42,9 +42,9 @@ refusal-of-requires : tie.Need-refusal_of-requires
 refusal-of-requires c κs = search rules
 
 returns-2 : tie.Need-returns-in_default
-returns-2 c = rw (c.refusal_of.ensures, c.before.in_default.is)
-    (sym (no_rows _ _ _ c.before.before.before.if-lent-ne1024.false _
-    (sym c.read_size-a.ensures ∙ c.before.in_default.is)))
+returns-2 c = rw (c.refusal_of.ensures, c.in_default.is)
+    (sym (no_rows _ _ _ c.if-lent-ne1024.false _
+    (sym c.read_size-a.ensures ∙ c.in_default.is)))
 
 read-size-requires-2 : tie.Need-read_size-b-requires
 read-size-requires-2 c κs = search rules
@@ -60,10 +60,10 @@ refusal-of-requires-2 c κs = search rules
 
 returns-3 : tie.Need-returns-in_default-b
 returns-3 c =
-    rw (c.refusal_of-in_default-b.ensures, c.before.in_default-b.is)
+    rw (c.refusal_of-in_default-b.ensures, c.in_default-b.is)
     (sym
-    (no_columns _ _ _ c.before.before.before.before.before.if-lent-ne1024.false _ _ (rows_are c.before.before.before) _
-    (sym c.read_size-b.ensures ∙ c.before.in_default-b.is)))
+    (no_columns _ _ _ c.if-lent-ne1024.false _ _ (rows_are c.before.before.before) _
+    (sym c.read_size-b.ensures ∙ c.in_default-b.is)))
 
 read-number-requires : tie.Need-read_number-d-requires
 read-number-requires c κs = search rules
@@ -79,10 +79,10 @@ refusal-of-requires-3 c κs = search rules
 
 returns-4 : tie.Need-returns-in_default-d
 returns-4 c =
-    rw (c.refusal_of-in_default-d.ensures, c.before.in_default-d.is)
+    rw (c.refusal_of-in_default-d.ensures, c.in_default-d.is)
     (sym
-    (no_count _ _ _ c.before.before.before.before.before.before.before.if-lent-ne1024.false _ _ (rows_are c.before.before.before.before.before) _ _ (columns-are c.before.before.before) _
-    (sym (number_kept _ _ c.read_number-d.ensures) ∙ c.before.in_default-d.is)))
+    (no_count _ _ _ c.if-lent-ne1024.false _ _ (rows_are c.before.before.before.before.before) _ _ (columns-are c.before.before.before) _
+    (sym (number_kept _ _ c.read_number-d.ensures) ∙ c.in_default-d.is)))
 
 cast-t14 : tie.Need-overflow_cast-head
 cast-t14 c = search rules
@@ -95,15 +95,15 @@ cast-t21 c = search rules
 
 read-body-requires : tie.Need-read_body-requires
 read-body-requires c κs =
-    (size_bound _ _ _ _ (rows_are c.before.before.before.before.before), size_bound _ _ _ _ (columns-are c.before.before.before), omega arith, c.before.before.before.before.before.before.before.if-lent-ne1024.false)
+    (size_bound _ _ _ _ (rows_are c.before.before.before.before.before), size_bound _ _ _ _ (columns-are c.before.before.before), omega arith, c.if-lent-ne1024.false)
 
 same_length : tie.Need-shape_of-lent
 same_length c = search rules
 
 returns-5 : tie.Need-returns
 returns-5 c =
-    c.before.before.read_body.ensures
-    ∙ sym (head_read _ _ _ c.before.before.before.before.before.before.before.before.before.before.if-lent-ne1024.false _ _ (rows_are c.before.before.before.before.before.before.before.before) _ _ (columns-are c.before.before.before.before.before.before) _ _ (count_is c.before.before.before.before))
+    c.read_body.ensures
+    ∙ sym (head_read _ _ _ c.if-lent-ne1024.false _ _ (rows_are c.before.before.before.before.before.before.before.before) _ _ (columns-are c.before.before.before.before.before.before) _ _ (count_is c.before.before.before.before))
 
 pub read_file_spec : {M : Type 1} → statement M
 read_file_spec =

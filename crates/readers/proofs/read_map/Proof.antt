@@ -20,7 +20,7 @@ same_length c = search rules
 
 returns : tie.Need-returns
 returns c =
-    let e = c.before.before.before.read_file.ensures in (
+    let e = c.read_file.ensures in (
       ap told_map c.map_of.ensures ∙ ap (λ (x : FileRead × List ℕ). told_map (map_of x.0)) e,
       ap (λ (x : FileRead × List ℕ). x.1) e,
     )

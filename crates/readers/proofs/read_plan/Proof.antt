@@ -13,7 +13,7 @@ same_length : tie.Need-shape_of-directions
 same_length c = search rules
 
 returns : tie.Need-returns
-returns c = answered told c.before.before.read_file.ensures
+returns c = answered told c.read_file.ensures
 
 pub read_plan_spec : {M : Type 1} → statement M
 read_plan_spec = tie.close (tie.spec read-file-requires same_length returns)

@@ -42,8 +42,8 @@ refusal-of-requires c κs = search rules
 
 returns : tie.Need-returns-in_default
 returns c =
-    rw (c.refusal_of.ensures, c.before.in_default.is)
-    (sym (no_row _ _ _ _ _ _ _ _ (sym (number_kept _ _ c.read_number-a.ensures) ∙ c.before.in_default.is)))
+    rw (c.refusal_of.ensures, c.in_default.is)
+    (sym (no_row _ _ _ _ _ _ _ _ (sym (number_kept _ _ c.read_number-a.ensures) ∙ c.in_default.is)))
 
 read-number-requires-2 : tie.Need-read_number-d-requires
 read-number-requires-2 c κs = search rules
@@ -59,10 +59,10 @@ refusal-of-requires-2 c κs = search rules
 
 returns-2 : tie.Need-returns-in_default-d
 returns-2 c =
-    rw (c.refusal_of-in_default-d.ensures, c.before.in_default-d.is)
+    rw (c.refusal_of-in_default-d.ensures, c.in_default-d.is)
     (sym
     (no_column _ _ _ _ _ _ _ _ (row_is c.before.before.before) _ _
-    (sym (number_kept _ _ c.read_number-d.ensures) ∙ c.before.in_default-d.is)))
+    (sym (number_kept _ _ c.read_number-d.ensures) ∙ c.in_default-d.is)))
 
 read-value-requires : tie.Need-read_value-e-requires
 read-value-requires c κs = search rules
@@ -78,10 +78,10 @@ refusal-of-requires-3 c κs = search rules
 
 returns-3 : tie.Need-returns-in_default-e
 returns-3 c =
-    rw (c.refusal_of-in_default-e.ensures, c.before.in_default-e.is)
+    rw (c.refusal_of-in_default-e.ensures, c.in_default-e.is)
     (sym
     (no_value _ _ _ _ _ _ _ _ (row_is c.before.before.before.before.before) _ _ (column_is c.before.before.before) _ _
-    (sym c.read_value-e.ensures ∙ c.before.in_default-e.is)))
+    (sym c.read_value-e.ensures ∙ c.in_default-e.is)))
 
 cast-mark : tie.Need-overflow_cast-x
 cast-mark c = search rules
@@ -97,8 +97,8 @@ same_length c = search rules
 
 returns-4 : tie.Need-returns
 returns-4 c =
-    let p = c.before.before.before.before.before.before.before.before.before.before.before.before.requires in
-    c.before.before.mark.ensures
+    let p = c.requires in
+    c.mark.ensures
     ∙ sym (record_marked _ _ _ _ _ _ _ _ (row_is c.before.before.before.before.before.before.before.before) _ _ (column_is c.before.before.before.before.before.before) (p.0, p.1) p.2 _ _ _ (value-is c.before.before.before.before))
 
 pub read_record_spec : {M : Type 1} → statement M

@@ -34,9 +34,9 @@ same_length c = search rules
 returns : tie.Need-returns-in_default invariant-loop decreases-loop
 returns c = rw c.in_default.is
     (sym
-    (c.before.before.before.before.before.before.loop-left.invariant.1
-    ∙ stop _ _ _ _ _ _ _ _ c.before.before.before.before.before.loop-left-test.true _ _
-    (sym (rw c.in_default.is at c.before.before.before.read_record-a.ensures))))
+    (c.loop-left.invariant.1
+    ∙ stop _ _ _ _ _ _ _ _ c.loop-left-test.true _ _
+    (sym (rw c.in_default.is at c.read_record-a.ensures))))
 
 sub-left : tie.Need-overflow_sub-left invariant-loop decreases-loop
 sub-left c = omega arith
@@ -47,9 +47,9 @@ loop-less c = omega arith
 loop-again : tie.Need-loop-left-preserved invariant-loop decreases-loop
 loop-again c = (
   omega arith,
-  c.before.before.before.before.before.before.loop-left.invariant.1 ∙ more _ _ _ _ _ _ _ _
-      c.before.before.before.before.before.loop-left-test.true _ _ _
-      (sym (rw c.in-Next.is at c.before.before.before.read_record-a.ensures)),
+  c.loop-left.invariant.1 ∙ more _ _ _ _ _ _ _ _
+      c.loop-left-test.true _ _ _
+      (sym (rw c.in-Next.is at c.read_record-a.ensures)),
 )
 
 same-length-2 : tie.Need-shape_of-b invariant-loop decreases-loop
@@ -57,8 +57,8 @@ same-length-2 c = search rules
 
 returns-2 : tie.Need-returns invariant-loop decreases-loop
 returns-2 c =
-    let z : c.before.loop-left.left ≡ 0 = omega arith in
-    sym (c.before.loop-left.invariant.1 ∙ rw z (none_left _ _ _ _ _ _ _))
+    let z : c.loop-left.left ≡ 0 = omega arith in
+    sym (c.loop-left.invariant.1 ∙ rw z (none_left _ _ _ _ _ _ _))
 
 pub read_records_spec : {M : Type 1} → statement M
 read_records_spec =

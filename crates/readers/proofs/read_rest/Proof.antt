@@ -20,13 +20,13 @@ same_length : tie.Need-shape_of-lent-in-Map
 same_length c = search rules
 
 returns : tie.Need-returns-in-Map
-returns c = λ p. rw c.before.before.before.before.in-Map.is (c.before.before.read_second.ensures p)
+returns c = λ p. rw c.in-Map.is (c.read_second.ensures p)
 
 same-length-2 : tie.Need-shape_of-lent-in-Plan
 same-length-2 c = search rules
 
 returns-2 : tie.Need-returns-in-Plan
-returns-2 c = λ p. rw c.before.before.before.before.in-Plan.is (c.before.before.read_trials.ensures p)
+returns-2 c = λ p. rw c.in-Plan.is (c.read_trials.ensures p)
 
 pub read_rest_spec : {M : Type 1} → statement M
 read_rest_spec =

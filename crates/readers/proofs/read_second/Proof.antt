@@ -25,8 +25,8 @@ same_length c = search rules
 returns : tie.Need-returns-then-s-end
 returns c = λ p.
     let a = c.args in
-    rw c.before.before.copy.ensures
-    (sym (second_none a.s.now a.head a.lent.now a.end p a.grid c.before.before.before.before.if-s-end.true))
+    rw c.copy.ensures
+    (sym (second_none a.s.now a.head a.lent.now a.end p a.grid c.if-s-end.true))
 
 read-number-requires : tie.Need-read_number-a-requires
 read-number-requires c κs = search rules
@@ -43,14 +43,14 @@ refusal-of-requires c κs = search rules
 returns-2 : tie.Need-returns-in_default
 returns-2 c = λ p.
     let a = c.args in
-    rw (c.refusal_of.ensures, c.before.in_default.is)
-    (sym (second_cut a.s.now a.head a.lent.now a.end p a.grid c.before.before.before.if-s-end.false _
-    (sym (number_kept _ _ c.read_number-a.ensures) ∙ c.before.in_default.is)))
+    rw (c.refusal_of.ensures, c.in_default.is)
+    (sym (second_cut a.s.now a.head a.lent.now a.end p a.grid c.if-s-end.false _
+    (sym (number_kept _ _ c.read_number-a.ensures) ∙ c.in_default.is)))
 
 returns-3 : tie.Need-returns-then-more-eq0
 returns-3 c = λ p.
     let a = c.args in
-    sym (second_zero a.s.now a.head a.lent.now a.end p a.grid c.before.before.before.if-s-end.false _ _ (more-is c.before)
+    sym (second_zero a.s.now a.head a.lent.now a.end p a.grid c.if-s-end.false _ _ (more-is c.before)
     c.if-more-eq0.true)
 
 cast-t10 : tie.Need-overflow_cast-both
@@ -71,9 +71,9 @@ same-length-2 c = search rules
 returns-4 : tie.Need-returns
 returns-4 c = λ p.
     let a = c.args in
-    c.before.before.read_dead.ensures
-    ∙ sym (second_some a.s.now a.head a.lent.now a.end p a.grid c.before.before.before.before.before.before.before.before.if-s-end.false _ _ (more-is c.before.before.before.before.before.before)
-    c.before.before.before.before.before.if-more-eq0.false)
+    c.read_dead.ensures
+    ∙ sym (second_some a.s.now a.head a.lent.now a.end p a.grid c.if-s-end.false _ _ (more-is c.before.before.before.before.before.before)
+    c.if-more-eq0.false)
 
 pub read_second_spec : {M : Type 1} → statement M
 read_second_spec =

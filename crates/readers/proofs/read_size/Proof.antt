@@ -19,7 +19,7 @@ enum_told c = search rules
 returns : tie.Need-returns-in_default
 returns c =
     c.in_default.is ∙ sym
-    (size_refused _ _ _ (sym (number_kept _ _ c.before.read_number-a.ensures) ∙ c.in_default.is))
+    (size_refused _ _ _ (sym (number_kept _ _ c.read_number-a.ensures) ∙ c.in_default.is))
 
 cast-is-size : tie.Need-overflow_cast-v
 cast-is-size c = search rules
@@ -30,14 +30,14 @@ is-size-requires c κs = search rules
 returns-2 : tie.Need-returns-then-is_size
 returns-2 c =
     sym (size_good _ _ _ _
-    (sym (number_kept _ _ c.before.before.before.read_number-a.ensures) ∙ c.before.before.in-Read.is)
-    (sym c.before.is_size.ensures ∙ c.if-is_size.true))
+    (sym (number_kept _ _ c.read_number-a.ensures) ∙ c.in-Read.is)
+    (sym c.is_size.ensures ∙ c.if-is_size.true))
 
 returns-3 : tie.Need-returns
 returns-3 c =
     sym (size_bad _ _ _ _
-    (sym (number_kept _ _ c.before.before.before.read_number-a.ensures) ∙ c.before.before.in-Read.is)
-    (sym c.before.is_size.ensures ∙ c.if-is_size.false))
+    (sym (number_kept _ _ c.read_number-a.ensures) ∙ c.in-Read.is)
+    (sym c.is_size.ensures ∙ c.if-is_size.false))
 
 pub read_size_spec : {M : Type 1} → statement M
 read_size_spec =

@@ -21,10 +21,10 @@ refusal-of-requires c κs = search rules
 
 returns : tie.Need-returns-in_default
 returns c = λ p.
-    let a = c.before.before.before.before.before.args in
-    rw (c.refusal_of.ensures, c.before.in_default.is)
+    let a = c.args in
+    rw (c.refusal_of.ensures, c.in_default.is)
     (sym (trials_cut a.s.now a.head a.lent.now a.at p a.directions _
-    (sym (number_kept _ _ c.before.before.read_number-a.ensures) ∙ c.before.in_default.is)))
+    (sym (number_kept _ _ c.read_number-a.ensures) ∙ c.in_default.is)))
 
 fill-requires : tie.Need-fill-requires
 fill-requires c κs = search rules
@@ -34,10 +34,10 @@ same_length c = search rules
 
 returns-2 : tie.Need-returns
 returns-2 c = λ p.
-    let a = c.before.before.before.before.before.before.before.before.args in
-    c.before.before.fill.ensures p
+    let a = c.args in
+    c.fill.ensures p
     ∙ sym (trials_some a.s.now a.head a.lent.now a.at p a.directions _ _
-    (sym (number_kept _ _ c.before.before.before.before.before.read_number-a.ensures) ∙ c.before.before.before.before.in-Read.is))
+    (sym (number_kept _ _ c.read_number-a.ensures) ∙ c.in-Read.is))
 
 pub read_trials_spec : {M : Type 1} → statement M
 read_trials_spec =

@@ -24,7 +24,7 @@ returns-2 : tie.Need-returns-in-Dead
 returns-2 c = rw c.in-Dead.is
 
 returns-3 : tie.Need-returns-in-Path
-returns-3 c = rw c.before.in-Path.is (number_kept _ _ c.read_number.ensures)
+returns-3 c = rw c.in-Path.is (number_kept _ _ c.read_number.ensures)
 
 pub read_value_spec : {M : Type 1} → statement M
 read_value_spec =

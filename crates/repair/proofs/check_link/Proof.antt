@@ -12,50 +12,46 @@ use Rattle.repair.proofs.check_link.Statement.{statement}
 use Rattle.repair.proofs.check_link.Tie as tie
 
 -- test 15, as the code answers it
-cell-is : (c : tie.After-is-inner) → let a = c.before.before.before.before.before.before.before.before.args in not (c.is-inner.result && ltb a.side 2) ≡ not (inner a.n a.m a.cell && ltb a.side 2)
-cell-is c = rw c.is-inner.ensures
+cell-is : (c : tie.After-is_inner) → let a = c.args in not (c.is_inner.result && ltb a.side 2) ≡ not (inner a.n a.m a.cell && ltb a.side 2)
+cell-is c = rw c.is_inner.ensures
 
-check-tests-requires : tie.Need-check-tests-requires
-check-tests-requires c κs = λ h. let l = c.before.before.before.before.requires h in (l.0, l.1)
+check-tests-requires : tie.Need-check_tests-plan-requires
+check-tests-requires c κs = λ h. let l = c.requires h in (l.0, l.1)
 
-enum_told : tie.Need-enum-told
+enum_told : tie.Need-enum_told-1
 enum_told c = search rules
 
-returns : tie.Need-returns
+returns : tie.Need-returns-in-Refused
 unfolding link_tests
-returns c = verdict_stops c.before.before.check-tests.ensures _ c.enum_told.given.1
+returns c = verdict_stops c.check_tests-plan.ensures _ c.in-Refused.is
 
-enum-told-2 : tie.Need-enum-told-2
+enum-told-2 : tie.Need-enum_told-in_default
 enum-told-2 c = search rules
 
-is-inner-requires : tie.Need-is-inner-requires
+is-inner-requires : tie.Need-is_inner-requires
 is-inner-requires c κs = search rules
 
-returns-2 : tie.Need-returns-2
+returns-2 : tie.Need-returns-then-not-is_inner-side
 unfolding link_tests
 returns-2 c =
-    let p = c.before.before in
-    verdict_passes p.before.before.check-tests.ensures _ p.enum-told2.given.1 (test_refuses (cell-is c.before) _ c.if1.true)
+    verdict_passes c.check_tests-plan.ensures _ c.in_default.is (test_refuses (cell-is c.before) _ c.if-not-is_inner-side.true-raw)
 
-check-switches-requires : tie.Need-check-switches-requires
+check-switches-requires : tie.Need-check_switches-requires
 check-switches-requires c κs =
-    let p = c.before.before in
-    let s = c.before.before.before.before.before.before.before.before.before in
-    let a = s.args in
-    let m = tested_map a.n a.m a.right a.grid.now a.directions.now (sym p.before.before.check-tests.ensures ∙ p.enum-told2.given.1) in
-    let l = s.requires m.lengths in
+    let a = c.args in
+    let m = tested_map a.n a.m a.right a.grid.now a.directions.now (sym c.check_tests-plan.ensures ∙ c.in_default.is) in
+    let l = c.requires m.lengths in
     (m.sizes.rows_high, m.sizes.columns_high, l.2, l.3)
 
-returns-3 : tie.Need-returns-3
+returns-3 : tie.Need-returns
 unfolding link_tests
 returns-3 c =
-    let p = c.before.before.before in
-    let a = c.before.before.before.before.before.before.before.before.before.before.args in
-    verdict_passes p.before.before.check-tests.ensures _ p.enum-told2.given.1
-    (test_passes (cell-is c.before.before) _ _ _ c.before.if1.false (c.check-switches.ensures a.grid.now a.directions.now))
+    let a = c.args in
+    verdict_passes c.check_tests-plan.ensures _ c.in_default.is
+    (test_passes (cell-is c.before.before) _ _ _ c.if-not-is_inner-side.false-raw (c.check_switches.ensures a.grid.now a.directions.now))
 
-pub check-link-spec : {M : Type 1} → statement M
-check-link-spec =
+pub check_link_spec : {M : Type 1} → statement M
+check_link_spec =
     tie.close
     (tie.spec
     check-tests-requires

@@ -14,53 +14,51 @@ use Rattle.repair.proofs.plan_by.Statement.{statement}
 use Rattle.repair.proofs.plan_by.Tie as tie
 
 -- what the tests answer
-tested : (c : tie.After-check-map)
-    → let a = c.before.before.before.args in
-    c.check-map.result ≡ planner_test a.n a.m a.grid.now a.directions.now
+tested : (c : tie.After-check_map-v)
+    → let a = c.args in
+    c.check_map-v.result ≡ planner_test a.n a.m a.grid.now a.directions.now
 tested c =
-    let a = c.before.before.before.args in
-    c.check-map.ensures
+    let a = c.args in
+    c.check_map-v.ensures
     ∙ ap (λ (r : Bool). map_tests a.n a.m (long a.grid.now && r) a.grid.now)
     (sym (and_one (long a.directions.now)))
 
-check-map-requires : tie.Need-check-map-requires
-check-map-requires c κs = λ h. let a = c.before.before.args in (two_long a.grid.now a.directions.now h).0
+check-map-requires : tie.Need-check_map-v-requires
+check-map-requires c κs = λ h. let a = c.args in (two_long a.grid.now a.directions.now h).0
 
-enum-known-v : tie.Need-enum-known-v
+enum-known-v : tie.Need-enum_known-v
 enum-known-v c = search rules
 
-returns : tie.Need-returns
+returns : tie.Need-returns-in-Refused
 unfolding plan_by directions_by
 returns c =
-    let e = tested c.before.before.before in
-    let h = c.before.v.given.1 in
+    let e = tested c.before in
+    let h = c.in-Refused.is in
     (ap told (answer_refused e _ h), kept_refused e _ _ h)
 
-enum_told : tie.Need-enum-told
+enum_told : tie.Need-enum_told-1
 enum_told c = search rules
 
-find-by-requires : tie.Need-find-by-requires
+find-by-requires : tie.Need-find_by-requires
 find-by-requires c κs =
-    let q = c.before.before.before in
-    let a = q.before.before.before.args in
-    let e = sym q.check-map.ensures ∙ c.before.enum_told.given.1 in
+    let a = c.args in
+    let e = sym c.check_map-v.ensures ∙ c.in_default.is in
     let m = map_accepted a.n a.m _ a.grid.now e in
     let l = two_long a.grid.now a.directions.now m.lengths in
     (m.sizes.rows_high, m.sizes.columns_high, l.0, l.1)
 
-same_length : tie.Need-same-length
+same_length : tie.Need-shape_of-directions
 same_length c = search rules
 
-returns-2 : tie.Need-returns-2
+returns-2 : tie.Need-returns
 unfolding plan_by directions_by
 returns-2 c =
-    let f = c.before.before in
-    let e = tested f.before.before.before.before in
-    let h = f.before.before.enum_told.given.1 in
-    (ap told (answer_accepted e _ h f.find-by.ensures.0), written_accepted e _ _ h f.find-by.ensures.1)
+    let e = tested c.before.before.before.before.before in
+    let h = c.in_default.is in
+    (ap told (answer_accepted e _ h c.find_by.ensures.0), written_accepted e _ _ h c.find_by.ensures.1)
 
-pub plan-by-spec : {M : Type 1} → statement M
-plan-by-spec =
+pub plan_by_spec : {M : Type 1} → statement M
+plan_by_spec =
     tie.close
     (tie.spec
     check-map-requires

@@ -15,58 +15,57 @@ use Rattle.repair.proofs.route_switches.Statement.{statement}
 use Rattle.repair.proofs.route_switches.Tie as tie
 
 -- what the tests answer
-tested : (c : tie.After-check-tests) → let a = c.before.before.before.before.before.args in
-    c.check-tests.result ≡ route_switches a.n a.m a.grid.now a.directions.now a.across.now a.down.now
+tested : (c : tie.After-check_tests-v) → let a = c.args in
+    c.check_tests-v.result ≡ route_switches a.n a.m a.grid.now a.directions.now a.across.now a.down.now
 unfolding route_switches
 tested c =
-    let a = c.before.before.before.before.before.args in
-    c.check-tests.ensures
+    let a = c.args in
+    c.check_tests-v.ensures
     ∙ ap (λ (r : Bool). plan_tests a.n a.m (long a.grid.now && (long a.directions.now && (long a.across.now && r))) a.grid.now a.directions.now)
     (sym (and_one (long a.down.now)))
 
-check-tests-requires : tie.Need-check-tests-requires
+check-tests-requires : tie.Need-check_tests-v-requires
 check-tests-requires c κs = λ h.
-    let a = c.before.before.before.before.args in front_long a.grid.now a.directions.now (long a.across.now && long a.down.now) h
+    let a = c.args in front_long a.grid.now a.directions.now (long a.across.now && long a.down.now) h
 
-enum_told : tie.Need-enum-told
+enum_told : tie.Need-enum_told-1
 enum_told c = search rules
 
-returns : tie.Need-returns
+returns : tie.Need-returns-in-Refused
 unfolding across_after down_after
 returns c =
-    let e = tested c.before.before in
-    let h = c.enum_told.given.1 in
+    let e = tested c.before in
+    let h = c.in-Refused.is in
     (ap told e, (kept_refused e _ _ h, kept_refused e _ _ h))
 
-enum-told-2 : tie.Need-enum-told-2
+enum-told-2 : tie.Need-enum_told-in_default
 enum-told-2 c = search rules
 
 route-requires : tie.Need-route-requires
 route-requires c κs =
-    let q = c.before.before.before.before in
-    let a = q.before.before.before.before.before.args in
-    let p = sym q.check-tests.ensures ∙ c.before.before.enum-told2.given.1 in
+    let a = c.args in
+    let p = sym c.check_tests-v.ensures ∙ c.in_default.is in
     let m = tested_map a.n a.m _ a.grid.now a.directions.now p in
     let d = tested_directions a.n a.m _ a.grid.now a.directions.now p (λ h. front_long a.grid.now a.directions.now (long a.across.now && long a.down.now) h) in
     let l = back_long a.grid.now a.directions.now a.across.now a.down.now m.lengths in
     (d, search l, search l)
 
-same_length : tie.Need-same-length
+same_length : tie.Need-shape_of-across
 same_length c = search rules
 
-same-length-2 : tie.Need-same-length-2
+same-length-2 : tie.Need-shape_of-down
 same-length-2 c = search rules
 
-returns-2 : tie.Need-returns-2
+returns-2 : tie.Need-returns
 unfolding across_after down_after
 returns-2 c =
-    let e = tested c.before.before.before.before.before.before.before.before.before in
-    let h = c.before.before.before.before.before.before.before.enum-told2.given.1 in
-    let r = c.before.before.before.before.route.ensures in
+    let e = tested c.before.before.before.before.before.before.before.before in
+    let h = c.in_default.is in
+    let r = c.route.ensures in
     (ap told (sym h ∙ e), (written_accepted e _ _ h r.0, written_accepted e _ _ h r.1))
 
-pub route-switches-spec : {M : Type 1} → statement M
-route-switches-spec =
+pub route_switches_spec : {M : Type 1} → statement M
+route_switches_spec =
     tie.close
     (tie.spec
     check-tests-requires

@@ -33,13 +33,13 @@ loop-less : tie.Need-loop-p-smaller invariant-loop decreases-loop
 loop-less c = omega arith
 
 loop-again : tie.Need-loop-p-preserved invariant-loop decreases-loop
-loop-again c = fill_step c.before.before.loop-p.invariant _ (omega arith) c.place_at.ensures
+loop-again c = fill_step c.loop-p.invariant _ (omega arith) c.place_at.ensures
 
 same_length : tie.Need-shape_of-places invariant-loop decreases-loop
-same_length c = omega (arith, c.before.loop-p.invariant.long)
+same_length c = omega (arith, c.loop-p.invariant.long)
 
 returns : tie.Need-returns invariant-loop decreases-loop
-returns c = fill_end c.before.loop-p.invariant (omega arith)
+returns c = fill_end c.loop-p.invariant (omega arith)
 
 pub fill_places_spec : {M : Type 1} → statement M
 fill_places_spec =

@@ -16,8 +16,8 @@ vertical-state-requires c κs = search rules
 
 returns : tie.Need-returns
 returns c =
-    let a = c.before.before.args in
-    c.vertical_state.ensures ∙ ap (λ (d : ℕ). vertical d a.fault) c.before.transpose.ensures ∙ transposed_state a.d a.fault
+    let a = c.args in
+    c.vertical_state.ensures ∙ ap (λ (d : ℕ). vertical d a.fault) c.transpose.ensures ∙ transposed_state a.d a.fault
 
 pub horizontal_state_spec : {M : Type 1} → statement M
 horizontal_state_spec = tie.close (tie.spec transpose-requires vertical-state-requires returns)

@@ -20,10 +20,10 @@ is-processor-at-requires-3 : tie.Need-is_processor_at-requires-else-down
 is-processor-at-requires-3 c κs = search rules
 
 returns : tie.Need-returns-then-down
-returns c = rw (c.before.if-down.true, c.before.before.is_processor_at-first.ensures, c.is_processor_at.ensures)
+returns c = rw (c.if-down.true, c.is_processor_at-first.ensures, c.is_processor_at.ensures)
 
 returns-2 : tie.Need-returns-else-down
-returns-2 c = rw (c.before.if-down.false, c.before.before.is_processor_at-first.ensures, c.is_processor_at-else-down.ensures)
+returns-2 c = rw (c.if-down.false, c.is_processor_at-first.ensures, c.is_processor_at-else-down.ensures)
 
 pub is_switch_spec : {M : Type 1} → statement M
 is_switch_spec =

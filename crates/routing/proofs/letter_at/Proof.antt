@@ -11,10 +11,10 @@ use native.Mathlib.Omega.{arith}
 use Rattle.routing.proofs.letter_at.Statement.{statement}
 use Rattle.routing.proofs.letter_at.Tie as tie
 
-second-there : (c : tie.Then-is_switch) → let a = c.before.before.before.before.args in second_at a.down a.p < 1024
+second-there : (c : tie.Then-is_switch) → let a = c.args in second_at a.down a.p < 1024
 second-there c =
-    let a = c.before.before.before.before.args in
-    second_within a.n a.m c.before.before.before.before.requires.0 c.before.before.before.before.requires.1 a.down a.p (sym c.before.is_switch.ensures ∙ c.if-is_switch.true)
+    let a = c.args in
+    second_within a.n a.m c.requires.0 c.requires.1 a.down a.p (sym c.is_switch.ensures ∙ c.if-is_switch.true)
 
 is-switch-requires : tie.Need-is_switch-requires
 is-switch-requires c κs = search rules
@@ -26,24 +26,24 @@ second-of-requires : tie.Need-second_of-requires
 second-of-requires c κs = search rules
 
 state-at-requires-2 : tie.Need-state_at-requires-then-is_switch
-state-at-requires-2 c κs = (c.before.before.before.before.before.before.requires.2, c.before.before.before.before.before.before.requires.3, omega (arith, c.second_of.ensures, second-there c.before.before))
+state-at-requires-2 c κs = (c.requires.2, c.requires.3, omega (arith, c.second_of.ensures, second-there c.before.before))
 
 switch-letter-requires : tie.Need-switch_letter-requires
 switch-letter-requires c κs = search rules
 
 returns : tie.Need-returns-then-is_switch
 returns c =
-    let a = c.before.before.before.before.before.before.before.before.args in
+    let a = c.args in
     let grid = a.grid.now in
     let traced = a.traced.now in
     c.switch_letter.ensures
-    ∙ ap (λ (x : ℕ). letter x c.before.state_at-then-is_switch.result) c.before.before.before.state_at.ensures.0
+    ∙ ap (λ (x : ℕ). letter x c.state_at-then-is_switch.result) c.state_at.ensures.0
     ∙ ap (letter (state_by a.down grid traced a.p))
-    (c.before.state_at-then-is_switch.ensures.0 ∙ ap (state_by a.down grid traced) c.before.before.second_of.ensures)
-    ∙ sym (cond_taken _ _ c.before.before.before.before.before.is_switch.ensures c.before.before.before.before.if-is_switch.true)
+    (c.state_at-then-is_switch.ensures.0 ∙ ap (state_by a.down grid traced) c.second_of.ensures)
+    ∙ sym (cond_taken _ _ c.is_switch.ensures c.if-is_switch.true)
 
 returns-2 : tie.Need-returns
-returns-2 c = sym (cond_left _ _ c.before.is_switch.ensures c.if-is_switch.false)
+returns-2 c = sym (cond_left _ _ c.is_switch.ensures c.if-is_switch.false)
 
 pub letter_at_spec : {M : Type 1} → statement M
 letter_at_spec =

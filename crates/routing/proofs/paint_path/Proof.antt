@@ -21,10 +21,10 @@ loop-holds : tie.Need-loop-k-init invariant-loop decreases-loop
 loop-holds c = paint_start _ _ _ _ _
 
 step-ahead-requires : tie.Need-step_ahead-requires invariant-loop decreases-loop
-step-ahead-requires c κs = (c.before.before.before.before.requires.0, omega arith)
+step-ahead-requires c κs = (c.requires.0, omega arith)
 
 slice-write-out : tie.Need-bounds-out-step_ahead invariant-loop decreases-loop
-slice-write-out c = omega (arith, c.step_ahead.ensures.1, c.before.before.loop-k.invariant.long, c.before.before.before.before.before.requires.1)
+slice-write-out c = omega (arith, c.step_ahead.ensures.1, c.loop-k.invariant.long, c.requires.1)
 
 add-k : tie.Need-overflow_step-k invariant-loop decreases-loop
 add-k c = omega arith
@@ -33,13 +33,13 @@ loop-less : tie.Need-loop-k-smaller invariant-loop decreases-loop
 loop-less c = omega arith
 
 loop-again : tie.Need-loop-k-preserved invariant-loop decreases-loop
-loop-again c = paint_step c.before.before.loop-k.invariant _ (omega arith) c.step_ahead.ensures.0
+loop-again c = paint_step c.loop-k.invariant _ (omega arith) c.step_ahead.ensures.0
 
 same_length : tie.Need-shape_of-out invariant-loop decreases-loop
-same_length c = c.before.loop-k.invariant.long
+same_length c = c.loop-k.invariant.long
 
 returns : tie.Need-returns invariant-loop decreases-loop
-returns c = paint_end c.before.loop-k.invariant (omega arith)
+returns c = paint_end c.loop-k.invariant (omega arith)
 
 pub paint_path_spec : {M : Type 1} → statement M
 paint_path_spec =

@@ -16,7 +16,7 @@ abbrev decreases-loop : tie.decreases-loop-i
 decreases-loop n m starts ds out₀ count i₀ out i = length starts - i
 
 loop-holds : tie.Need-loop-i-init invariant-loop decreases-loop
-loop-holds c = trace_start _ _ _ _ _ c.before.before.before.requires.0.same c.before.before.before.requires.1
+loop-holds c = trace_start _ _ _ _ _ c.requires.0.same c.requires.1
 
 sub-k : tie.Need-overflow_sub-k invariant-loop decreases-loop
 sub-k c = omega arith
@@ -34,11 +34,11 @@ wide-requires : tie.Need-wide-requires invariant-loop decreases-loop
 wide-requires c κs = search rules
 
 shared-slice-read-paint-path : tie.Need-bounds-ds-k invariant-loop decreases-loop
-shared-slice-read-paint-path c = omega (arith, c.before.before.before.before.loop-i.invariant.same)
+shared-slice-read-paint-path c = omega (arith, c.loop-i.invariant.same)
 
 paint-path-requires : tie.Need-paint_path-requires invariant-loop decreases-loop
 paint-path-requires c κs =
-    (start_here c.before.before.before.before.before.before.before.before.before.requires.0 _ _ (omega arith) c.before.before.wide.ensures, trace_long c.before.before.before.before.before.loop-i.invariant)
+    (start_here c.requires.0 _ _ (omega arith) c.wide.ensures, trace_long c.loop-i.invariant)
 
 add-i : tie.Need-overflow_step-i invariant-loop decreases-loop
 add-i c = omega arith
@@ -48,13 +48,13 @@ loop-less c = omega arith
 
 loop-again : tie.Need-loop-i-preserved invariant-loop decreases-loop
 loop-again c =
-    trace_step c.before.before.before.before.before.before.before.before.loop-i.invariant _ _ _ (omega arith) c.before.before.before.before.before.wide.ensures c.before.before.paint_path.ensures
+    trace_step c.loop-i.invariant _ _ _ (omega arith) c.wide.ensures c.paint_path.ensures
 
 same_length : tie.Need-shape_of-out invariant-loop decreases-loop
-same_length c = trace_long c.before.loop-i.invariant ∙ sym (zeros_long _ c.before.before.before.before.before.requires.1)
+same_length c = trace_long c.loop-i.invariant ∙ sym (zeros_long _ c.requires.1)
 
 returns : tie.Need-returns invariant-loop decreases-loop
-returns c = trace_end c.before.loop-i.invariant (omega arith)
+returns c = trace_end c.loop-i.invariant (omega arith)
 
 pub paint_paths_spec : {M : Type 1} → statement M
 paint_paths_spec =

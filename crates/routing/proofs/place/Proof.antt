@@ -11,7 +11,7 @@ slice-aggregate-place-within c = search rules
 
 place-within-requires : tie.Need-place_within-requires
 unfolding span
-place-within-requires c κs = (c.before.before.before.before.before.requires.0, refl, c.before.before.before.before.before.requires.1)
+place-within-requires c κs = (c.requires.0, refl, c.requires.1)
 
 same_length : tie.Need-shape_of-places
 same_length c = search rules

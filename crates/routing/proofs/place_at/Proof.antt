@@ -8,8 +8,8 @@ use native.Mathlib.Omega.{arith}
 use Rattle.routing.proofs.place_at.Statement.{statement}
 use Rattle.routing.proofs.place_at.Tie as tie
 
-is-inside : (c : tie.Then-is_inner) → let a = c.before.before.before.args in Inner a.n a.m a.p
-is-inside c = let a = c.before.before.before.args in inner_holds a.n a.m a.p (sym c.before.is_inner.ensures ∙ c.if-is_inner.true)
+is-inside : (c : tie.Then-is_inner) → let a = c.args in Inner a.n a.m a.p
+is-inside c = let a = c.args in inner_holds a.n a.m a.p (sym c.is_inner.ensures ∙ c.if-is_inner.true)
 
 is-inner-requires : tie.Need-is_inner-requires
 is-inner-requires c κs = search rules
@@ -18,16 +18,16 @@ shared-slice-read-next-to : tie.Need-bounds-traced-p
 shared-slice-read-next-to c = search rules
 
 next-to-requires : tie.Need-next_to-requires
-next-to-requires c κs = let i = is-inside c.before in (omega (arith, i.row_low), omega (arith, c.before.before.before.before.requires))
+next-to-requires c κs = let i = is-inside c.before in (omega (arith, i.row_low), omega (arith, c.requires))
 
 cast-result : tie.Need-overflow_cast-result
 cast-result c = omega (arith, c.next_to.ensures.1)
 
 returns : tie.Need-returns-then-is_inner
-returns c = c.next_to.ensures.0 ∙ sym (cond_taken _ _ c.before.before.before.is_inner.ensures c.before.before.if-is_inner.true)
+returns c = c.next_to.ensures.0 ∙ sym (cond_taken _ _ c.is_inner.ensures c.if-is_inner.true)
 
 returns-2 : tie.Need-returns
-returns-2 c = sym (cond_left _ _ c.before.is_inner.ensures c.if-is_inner.false)
+returns-2 c = sym (cond_left _ _ c.is_inner.ensures c.if-is_inner.false)
 
 pub place_at_spec : {M : Type 1} → statement M
 place_at_spec =

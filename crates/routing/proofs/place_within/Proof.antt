@@ -20,7 +20,7 @@ trace-paths-requires c κs = search rules
 fill-places-requires : tie.Need-fill_places-requires
 fill-places-requires c κs =
     let a = (start c.before.before.before).args in
-    (ap length c.before.before.before.trace_paths.ensures ∙ traced_long a.n a.m a.grid.now a.directions.now, (start c.before.before.before).requires.2)
+    (ap length c.trace_paths.ensures ∙ traced_long a.n a.m a.grid.now a.directions.now, (start c.before.before.before).requires.2)
 
 same_length : tie.Need-shape_of-traced
 same_length c = search rules
@@ -31,8 +31,8 @@ same-length-2 c = search rules
 returns : tie.Need-returns
 returns c =
     let a = (start c.before.before.before.before.before.before).args in
-    c.before.before.fill_places.ensures
-    ∙ ap (λ (x : List ℕ). buffer (placed_by a.n a.m x)) c.before.before.before.before.before.before.trace_paths.ensures
+    c.fill_places.ensures
+    ∙ ap (λ (x : List ℕ). buffer (placed_by a.n a.m x)) c.trace_paths.ensures
     ∙ placed_is a.n a.m a.grid.now a.directions.now
 
 pub place_within_spec : {M : Type 1} → statement M

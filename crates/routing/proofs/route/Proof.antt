@@ -11,7 +11,7 @@ slice-aggregate-route-within c = search rules
 
 route-within-requires : tie.Need-route_within-requires
 unfolding span
-route-within-requires c κs = (c.before.before.before.before.before.before.before.requires.0, refl, c.before.before.before.before.before.before.before.requires.1, c.before.before.before.before.before.before.before.requires.2)
+route-within-requires c κs = (c.requires.0, refl, c.requires.1, c.requires.2)
 
 same_length : tie.Need-shape_of-across
 same_length c = search rules

@@ -31,13 +31,13 @@ fill-letters-requires : tie.Need-fill_letters-requires
 fill-letters-requires c κs =
     let s = (start c.before.before.before).requires in
     let d = s.0.sound in
-    (d.rows, d.columns, d.grid_long, ap length c.before.before.before.trace_paths.ensures ∙ long c.before.before.before, s.2)
+    (d.rows, d.columns, d.grid_long, ap length c.trace_paths.ensures ∙ long c.before.before.before, s.2)
 
 fill-letters-requires-2 : tie.Need-fill_letters-requires-2
 fill-letters-requires-2 c κs =
     let s = (start c.before.before.before.before.before.before.before).requires in
     let d = s.0.sound in
-    (d.rows, d.columns, d.grid_long, ap length c.before.before.before.before.before.before.before.trace_paths.ensures ∙ long c.before.before.before.before.before.before.before, s.3)
+    (d.rows, d.columns, d.grid_long, ap length c.trace_paths.ensures ∙ long c.before.before.before.before.before.before.before, s.3)
 
 same_length : tie.Need-shape_of-traced
 same_length c = search rules
@@ -53,11 +53,11 @@ returns c =
     let s = start c.before.before.before.before.before.before.before.before.before.before in
     let a = s.args in
     let d = s.requires.0.sound in (
-      c.before.before.before.before.before.before.fill_letters.ensures
-          ∙ ap (letters c.before.before.before.before.before.before.before.before.before.before false) c.before.before.before.before.before.before.before.before.before.before.trace_paths.ensures
+      c.fill_letters.ensures
+          ∙ ap (letters c.before.before.before.before.before.before.before.before.before.before false) c.trace_paths.ensures
           ∙ across_is a.n a.m d.rows d.columns a.grid.now a.directions.now,
-      c.before.before.fill_letters-2.ensures
-          ∙ ap (letters c.before.before.before.before.before.before.before.before.before.before true) c.before.before.before.before.before.before.before.before.before.before.trace_paths.ensures
+      c.fill_letters-2.ensures
+          ∙ ap (letters c.before.before.before.before.before.before.before.before.before.before true) c.trace_paths.ensures
           ∙ down_is a.n a.m d.rows d.columns a.grid.now a.directions.now,
     )
 

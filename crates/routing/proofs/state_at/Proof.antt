@@ -24,11 +24,11 @@ state-of-requires c κs = search rules
 
 returns : tie.Need-returns
 returns c =
-    let a = c.before.before.before.before.before.before.args in
+    let a = c.args in
     let d = get_or a.traced.now a.p 0 in
-    let f = c.before.is_faulty in
+    let f = c.is_faulty in
     let low = state_low a.down d f.result in (
-      c.state_of.ensures ∙ ap (state a.down d) (f.ensures ∙ sym (faulty_read a.grid.now a.p (omega (arith, c.before.before.before.before.before.before.requires)))),
+      c.state_of.ensures ∙ ap (state a.down d) (f.ensures ∙ sym (faulty_read a.grid.now a.p (omega (arith, c.requires)))),
       omega (arith, c.state_of.ensures, low),
     )
 

@@ -11,10 +11,10 @@ vertical-state-requires : tie.Need-vertical_state-requires
 vertical-state-requires c κs = search rules
 
 returns : tie.Need-returns-then-down
-returns c = rw c.before.if-down.true c.horizontal_state.ensures
+returns c = rw c.if-down.true c.horizontal_state.ensures
 
 returns-2 : tie.Need-returns-else-down
-returns-2 c = rw c.before.if-down.false c.vertical_state.ensures
+returns-2 c = rw c.if-down.false c.vertical_state.ensures
 
 pub state_of_spec : {M : Type 1} → statement M
 state_of_spec =

@@ -30,12 +30,12 @@ is-room t = t.take_directions.ensures ∙ ap (directions_at (start t).args.direc
 
 take-directions-requires : tie.Need-take_directions-requires
 take-directions-requires c κs =
-    let a = c.before.before.before.before.before.before.args in (
-      c.before.before.before.before.before.before.requires.2,
+    let a = c.args in (
+      c.requires.2,
       λ k h.
-          let l : k < length (found c.before.before.before.before.before.before) = omega (arith, h, ap length c.before.before.before.before.before.before.requires.1) in
-          let low = fault_below a.n a.m a.grid.now c.before.before.before.before.before.before.requires.0.sound.grid_long k l in
-          omega (arith, low, c.before.before.before.before.before.before.requires.0.sound.directions_long, ap (λ (x : List ℕ). get_or x k 0) c.before.before.before.before.before.before.requires.1),
+          let l : k < length (found c.before.before.before.before.before.before) = omega (arith, h, ap length c.requires.1) in
+          let low = fault_below a.n a.m a.grid.now c.requires.0.sound.grid_long k l in
+          omega (arith, low, c.requires.0.sound.directions_long, ap (λ (x : List ℕ). get_or x k 0) c.requires.1),
     )
 
 paint-paths-requires : tie.Need-paint_paths-requires
@@ -59,7 +59,7 @@ unfolding traced_paths
 returns c =
     let s = start c.before.before.before.before.before.before in
     let a = s.args in
-    c.before.before.paint_paths.ensures
+    c.paint_paths.ensures
     ∙ ap (λ (x : List ℕ). buffer (through a.n a.m (paired x (room c.before.before.before.before.before.before)))) s.requires.1
     ∙ ap (λ (x : List ℕ). buffer (through a.n a.m (paired (found s) x))) (is-room c.before.before.before.before.before.before)
 

@@ -19,21 +19,21 @@ list-faults-requires : tie.Need-list_faults-count-requires
 list-faults-requires c κs = search rules
 
 slice-reshare-prefix-trace-listed : tie.Need-slice_bounds-trace_listed-end
-slice-reshare-prefix-trace-listed c = c.before.before.list_faults-count.ensures.fits
+slice-reshare-prefix-trace-listed c = c.list_faults-count.ensures.fits
 
 slice-aggregate-trace-listed : tie.Need-slice_bounds-trace_listed-end-2
-slice-aggregate-trace-listed c = c.before.before.list_faults-count.ensures.size
+slice-aggregate-trace-listed c = c.list_faults-count.ensures.size
 
 slice-relend-prefix-trace-listed : tie.Need-slice_bounds-trace_listed-end-3
 slice-relend-prefix-trace-listed c =
-    omega (arith, c.before.before.list_faults-count.ensures.short, (start c.before.before).requires.2)
+    omega (arith, c.list_faults-count.ensures.short, (start c.before.before).requires.2)
 
 slice-aggregate-trace-listed-2 : tie.Need-slice_bounds-trace_listed-end-4
 slice-aggregate-trace-listed-2 c = sym (room-long c.before.before.before)
 
 trace-listed-requires : tie.Need-trace_listed-requires
 trace-listed-requires c κs =
-    let l = c.before.before.before.before.list_faults-count.ensures in
+    let l = c.list_faults-count.ensures in
     ((start c.before.before.before.before).requires.0, l.front, room-long c.before.before.before.before ∙ l.size, (start c.before.before.before.before).requires.3)
 
 same_length : tie.Need-shape_of-starts

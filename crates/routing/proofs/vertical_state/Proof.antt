@@ -30,18 +30,18 @@ returns : tie.Need-returns-then-d
 returns c = rw c.if-d.true at (decided c.before)
 
 returns-2 : tie.Need-returns-then-fault-d
-returns-2 c = rw (c.before.if-d.false, c.if-fault-d.true) at (decided c.before.before)
+returns-2 c = rw (c.if-d.false, c.if-fault-d.true) at (decided c.before.before)
 
 returns-3 : tie.Need-returns-then-fault-d-2
-returns-3 c = rw (c.before.before.if-d.false, c.before.if-fault-d.false, c.if-fault-d-2.true) at (decided c.before.before.before)
+returns-3 c = rw (c.if-d.false, c.if-fault-d.false, c.if-fault-d-2.true) at (decided c.before.before.before)
 
 returns-4 : tie.Need-returns-then-fault-d-3
 returns-4 c =
-    rw (c.before.before.before.if-d.false, c.before.before.if-fault-d.false, c.before.if-fault-d-2.false, c.if-fault-d-3.true) at (decided c.before.before.before.before)
+    rw (c.if-d.false, c.if-fault-d.false, c.if-fault-d-2.false, c.if-fault-d-3.true) at (decided c.before.before.before.before)
 
 returns-5 : tie.Need-returns
 returns-5 c =
-    rw (c.before.before.before.if-d.false, c.before.before.if-fault-d.false, c.before.if-fault-d-2.false, c.if-fault-d-3.false) at (decided c.before.before.before.before)
+    rw (c.if-d.false, c.if-fault-d.false, c.if-fault-d-2.false, c.if-fault-d-3.false) at (decided c.before.before.before.before)
 
 pub vertical_state_spec : {M : Type 1} → statement M
 vertical_state_spec = tie.close (tie.spec returns returns-2 returns-3 returns-4 returns-5)

@@ -39,26 +39,26 @@ shared-slice-read-find-entry-3 c = omega arith
 
 find-entry-requires : tie.Need-find_entry-requires invariant-loop decreases-loop
 find-entry-requires c κs =
-    let s = c.before.before.before.before.before.before.before.before.before.before.requires in
-    let low : c.before.before.before.before.loop-j.j - 1 < c.before.before.before.before.loop-j.j = omega arith in
-    let within : c.before.before.before.before.loop-j.j - 1 < c.before.before.before.before.before.before.before.before.before.before.args.k = omega (arith, c.before.before.before.before.loop-j.invariant.0) in
-    (s.0, s.1.each (c.before.before.before.before.loop-j.j - 1) within, s.1.last)
+    let s = c.requires in
+    let low : c.loop-j.j - 1 < c.loop-j.j = omega arith in
+    let within : c.loop-j.j - 1 < c.args.k = omega (arith, c.loop-j.invariant.0) in
+    (s.0, s.1.each (c.loop-j.j - 1) within, s.1.last)
 
 returns : tie.Need-returns-then-find_entry-ne-CLEAR invariant-loop decreases-loop
 returns c =
-    let v = c.before.before.before.before.before.before.loop-j.invariant.1 in
-    sym (v ∙ entries_next _ _ _ _ _ _ _ (omega arith) c.before.find_entry.ensures (ne_eqb _ 0 c.if-find_entry-ne-CLEAR.true))
+    let v = c.loop-j.invariant.1 in
+    sym (v ∙ entries_next _ _ _ _ _ _ _ (omega arith) c.find_entry.ensures (ne_eqb _ 0 c.if-find_entry-ne-CLEAR.true))
 
 loop-less : tie.Need-loop-j-smaller invariant-loop decreases-loop
 loop-less c = omega arith
 
 loop-again : tie.Need-loop-j-preserved invariant-loop decreases-loop
 loop-again c =
-    let v = c.before.before.before.before.before.before.loop-j.invariant in
-    (omega arith, v.1 ∙ entries_next _ _ _ _ _ _ _ (omega arith) c.before.find_entry.ensures (eq-eqb _ 0 c.if-find_entry-ne-CLEAR.false))
+    let v = c.loop-j.invariant in
+    (omega arith, v.1 ∙ entries_next _ _ _ _ _ _ _ (omega arith) c.find_entry.ensures (eq-eqb _ 0 c.if-find_entry-ne-CLEAR.false))
 
 returns-2 : tie.Need-returns invariant-loop decreases-loop
-returns-2 c = sym (c.before.loop-j.invariant.1 ∙ entries_none _ _ _ _ _ _ (omega arith))
+returns-2 c = sym (c.loop-j.invariant.1 ∙ entries_none _ _ _ _ _ _ (omega arith))
 
 pub is_clear_of_spec : {M : Type 1} → statement M
 is_clear_of_spec =

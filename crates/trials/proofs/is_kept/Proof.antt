@@ -20,7 +20,7 @@ same_length c = search rules
 
 returns : tie.Need-returns-then-not-is_open_once
 returns c =
-    let o = c.before.before.before.is_open_once.ensures in
+    let o = c.is_open_once.ensures in
     (keeps_by _ _ _ _ _ o.0 (not-true _ c.if-not-is_open_once.true-raw) refl, o.1)
 
 same-length-2 : tie.Need-shape_of-notes-then-d-eq1
@@ -28,10 +28,10 @@ same-length-2 c = search rules
 
 returns-2 : tie.Need-returns-then-d-eq1
 returns-2 c =
-    let o = c.before.before.before.before.is_open_once.ensures in
+    let o = c.is_open_once.ensures in
     let s = began c.before.before.before.before in
     let south = south_clear s.requires.0.search _ s.args.k s.requires.1 s.requires.2 s.args.k (omega arith) in
-    (keeps_by _ _ _ _ _ o.0 (not-false _ c.before.if-not-is_open_once.false-raw) (rw c.if-d-eq1.true south), o.1)
+    (keeps_by _ _ _ _ _ o.0 (not-false _ c.if-not-is_open_once.false-raw) (rw c.if-d-eq1.true south), o.1)
 
 is-clear-of-requires : tie.Need-is_clear_of-requires
 is-clear-of-requires c κs =
@@ -44,12 +44,12 @@ same-length-3 c = search rules
 
 returns-3 : tie.Need-returns
 returns-3 c =
-    let o = c.before.before.before.before.before.is_open_once.ensures in
+    let o = c.is_open_once.ensures in
     let s = began c.before.before.before.before.before in
     let r = s.requires.0 in
     let k = s.args.k in
     let e = entries_are_clear r.search _ k s.requires.1 s.requires.2 r.beside _ s.requires.3 s.requires.4 k (omega arith) in
-    (keeps_by _ _ _ _ _ o.0 (not-false _ c.before.before.if-not-is_open_once.false-raw) (sym (c.is_clear_of.ensures ∙ e)), o.1)
+    (keeps_by _ _ _ _ _ o.0 (not-false _ c.if-not-is_open_once.false-raw) (sym (c.is_clear_of.ensures ∙ e)), o.1)
 
 pub is_kept_spec : {M : Type 1} → statement M
 is_kept_spec =

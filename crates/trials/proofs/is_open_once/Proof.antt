@@ -25,9 +25,9 @@ slice-read-note c = search rules
 
 returns : tie.Need-returns-then-note-ne-UNKNOWN
 returns c =
-    let a = c.before.before.before.before.before.args in
-    let n = c.before.before.before.before.before.requires.1 in (
-      note_says _ _ (n.right a.k a.d c.before.before.before.before.before.requires.2 c.before.before.before.before.before.requires.3 c.before.before.before.before.before.requires.4) c.if-note-ne-UNKNOWN.true,
+    let a = c.args in
+    let n = c.requires.1 in (
+      note_says _ _ (n.right a.k a.d c.requires.2 c.requires.3 c.requires.4) c.if-note-ne-UNKNOWN.true,
       n,
     )
 
@@ -38,11 +38,11 @@ shared-slice-read-is-open : tie.Need-bounds-starts-k
 shared-slice-read-is-open c = search rules
 
 cast-is-open : tie.Need-overflow_cast-starts
-cast-is-open c = omega (arith, c.shared_slice_known-3-1.given c.before.before.before.before.before.before.args.k)
+cast-is-open c = omega (arith, c.shared_slice_known-3-1.given c.args.k)
 
 is-open-requires : tie.Need-is_open-requires
 is-open-requires c κs =
-    (start_at c.before.before.before.before.before.before.requires.0 c.before.before.before.before.before.before.args.k c.before.before.before.before.before.before.args.d c.before.before.before.before.before.before.requires.2 c.before.before.before.before.before.before.requires.3 c.before.before.before.before.before.before.requires.4, c.before.before.before.before.before.before.requires.0.marks)
+    (start_at c.requires.0 c.args.k c.args.d c.requires.2 c.requires.3 c.requires.4, c.requires.0.marks)
 
 slice-write-notes : tie.Need-bounds-notes-at-then-is_open
 slice-write-notes c = search rules
@@ -52,8 +52,8 @@ same_length c = search rules
 
 returns-2 : tie.Need-returns-then-is_open
 returns-2 c =
-    let e = sym c.if-is_open.true ∙ c.before.is_open.ensures in
-    (e, noted_set c.before.before.before.before.before.before.before.before.requires.1 c.before.before.before.before.before.before.before.before.args.k c.before.before.before.before.before.before.before.before.args.d _ c.before.before.before.before.before.before.before.before.requires.2 c.before.before.before.before.before.before.before.before.requires.3 c.before.before.before.before.before.before.before.before.requires.4 (ap (λ (b : Bool). cond b 2 1) e))
+    let e = sym c.if-is_open.true ∙ c.is_open.ensures in
+    (e, noted_set c.requires.1 c.args.k c.args.d _ c.requires.2 c.requires.3 c.requires.4 (ap (λ (b : Bool). cond b 2 1) e))
 
 slice-write-notes-2 : tie.Need-bounds-notes-at-2
 slice-write-notes-2 c = search rules
@@ -63,8 +63,8 @@ same-length-2 c = search rules
 
 returns-3 : tie.Need-returns
 returns-3 c =
-    let e = sym c.if-is_open.false ∙ c.before.is_open.ensures in
-    (e, noted_set c.before.before.before.before.before.before.before.before.requires.1 c.before.before.before.before.before.before.before.before.args.k c.before.before.before.before.before.before.before.before.args.d _ c.before.before.before.before.before.before.before.before.requires.2 c.before.before.before.before.before.before.before.before.requires.3 c.before.before.before.before.before.before.before.before.requires.4 (ap (λ (b : Bool). cond b 2 1) e))
+    let e = sym c.if-is_open.false ∙ c.is_open.ensures in
+    (e, noted_set c.requires.1 c.args.k c.args.d _ c.requires.2 c.requires.3 c.requires.4 (ap (λ (b : Bool). cond b 2 1) e))
 
 pub is_open_once_spec : {M : Type 1} → statement M
 is_open_once_spec =

@@ -32,18 +32,18 @@ as_many c = c.is_kept.auto.notes
 
 loop-holds : tie.Need-loop-k-init invariant-loop decreases-loop
 loop-holds c =
-    let r = c.before.before.before.before.before.before.requires in
+    let r = c.requires in
     (enter _ _ _ _ _ _ refl r.room, r.noted, refl)
 
 same_length : tie.Need-shape_of-notes-then-k-eq0 invariant-loop decreases-loop
-same_length c = c.before.before.before.loop-k.invariant.2
+same_length c = c.loop-k.invariant.2
 
 same-length-2 : tie.Need-shape_of-chosen-then-k-eq0 invariant-loop decreases-loop
-same-length-2 c = c.before.before.before.loop-k.invariant.0.same
+same-length-2 c = c.loop-k.invariant.0.same
 
 returns : tie.Need-returns-then-k-eq0 invariant-loop decreases-loop
 unfolding searched
-returns c = over _ _ _ _ _ c.before.before.before.loop-k.invariant.0 (omega arith) (omega arith) (omega arith) _
+returns c = over _ _ _ _ _ c.loop-k.invariant.0 (omega arith) (omega arith) (omega arith) _
 
 sub-k : tie.Need-overflow_sub-k invariant-loop decreases-loop
 sub-k c = omega arith
@@ -52,38 +52,38 @@ slice-read-d : tie.Need-bounds-chosen-k invariant-loop decreases-loop
 slice-read-d c = omega arith
 
 add-d : tie.Need-overflow_add-d invariant-loop decreases-loop
-add-d c = let l = c.before.before.before.before.loop-k in omega (arith, (l.invariant.0.kept (l.k - 1) (omega arith)).1)
+add-d c = let l = c.loop-k in omega (arith, (l.invariant.0.kept (l.k - 1) (omega arith)).1)
 
 loop-less : tie.Need-loop-k-smaller-then-d-gt4 invariant-loop decreases-loop
 loop-less c = omega arith
 
 loop-again : tie.Need-loop-k-preserved-then-d-gt4 invariant-loop decreases-loop
 loop-again c =
-    let v = c.before.before.before.before.loop-k.invariant in
-    (up _ _ _ _ _ v.0 (omega arith) (omega arith) c.before.if-k-eq0.false, v.1, v.2)
+    let v = c.loop-k.invariant in
+    (up _ _ _ _ _ v.0 (omega arith) (omega arith) c.if-k-eq0.false, v.1, v.2)
 
 same-length-3 : tie.Need-shape_of-notes-then-spent-limit invariant-loop decreases-loop
-same-length-3 c = c.before.before.before.loop-k.invariant.2
+same-length-3 c = c.loop-k.invariant.2
 
 same-length-4 : tie.Need-shape_of-chosen-then-spent-limit invariant-loop decreases-loop
-same-length-4 c = c.before.before.before.loop-k.invariant.0.same
+same-length-4 c = c.loop-k.invariant.0.same
 
 returns-2 : tie.Need-returns-then-spent-limit invariant-loop decreases-loop
 unfolding searched
-returns-2 c = out _ _ _ _ _ c.before.before.before.loop-k.invariant.0 (omega arith) (omega arith) (omega arith) _
+returns-2 c = out _ _ _ _ _ c.loop-k.invariant.0 (omega arith) (omega arith) (omega arith) _
 
 add-spent : tie.Need-overflow_add-spent invariant-loop decreases-loop
 add-spent c = omega arith
 
 is-kept-requires : tie.Need-is_kept-requires invariant-loop decreases-loop
 is-kept-requires c κs =
-    let v = c.before.before.before.before.loop-k.invariant.0 in
-    let r = c.before.before.before.before.before.before.before.before.before.before.before.requires in (
+    let v = c.loop-k.invariant.0 in
+    let r = c.requires in (
       record {
         search = r.search;
         beside = r.beside;
         clashes = r.clashes;
-        noted = c.before.before.before.before.loop-k.invariant.1;
+        noted = c.loop-k.invariant.1;
         room = omega (arith, r.room, v.same);
       },
       omega arith,
@@ -104,9 +104,9 @@ loop-less-2 c = omega arith
 loop-again-2 : tie.Need-loop-k-preserved-then-is_kept invariant-loop decreases-loop
 loop-again-2 c =
     let v = (turn c.before.before.before).loop-k.invariant in
-    let e = sym c.before.before.before.is_kept.ensures.0 ∙ c.if-is_kept.true in (
-      yes _ _ _ _ _ v.0 (omega arith) (omega arith) c.before.before.before.before.before.if-spent-limit.false (keeps_open _ _ _ _ _ e) e,
-      c.before.before.before.is_kept.ensures.1,
+    let e = sym c.is_kept.ensures.0 ∙ c.if-is_kept.true in (
+      yes _ _ _ _ _ v.0 (omega arith) (omega arith) c.if-spent-limit.false (keeps_open _ _ _ _ _ e) e,
+      c.is_kept.ensures.1,
       as_many c.before.before.before ∙ v.2,
     )
 
@@ -119,20 +119,20 @@ loop-less-3 c = omega arith
 loop-again-3 : tie.Need-loop-k-preserved invariant-loop decreases-loop
 loop-again-3 c =
     let v = (turn c.before.before.before).loop-k.invariant in (
-      no _ _ _ _ _ v.0 (omega arith) (omega arith) c.before.before.before.before.before.if-spent-limit.false (sym c.before.before.before.is_kept.ensures.0 ∙ c.if-is_kept.false),
-      c.before.before.before.is_kept.ensures.1,
+      no _ _ _ _ _ v.0 (omega arith) (omega arith) c.if-spent-limit.false (sym c.is_kept.ensures.0 ∙ c.if-is_kept.false),
+      c.is_kept.ensures.1,
       as_many c.before.before.before ∙ v.2,
     )
 
 same-length-5 : tie.Need-shape_of-notes invariant-loop decreases-loop
-same-length-5 c = c.before.loop-k.invariant.2
+same-length-5 c = c.loop-k.invariant.2
 
 same-length-6 : tie.Need-shape_of-chosen invariant-loop decreases-loop
-same-length-6 c = c.before.loop-k.invariant.0.same
+same-length-6 c = c.loop-k.invariant.0.same
 
 returns-3 : tie.Need-returns invariant-loop decreases-loop
 unfolding searched
-returns-3 c = done _ _ _ _ _ c.before.loop-k.invariant.0 (omega arith)
+returns-3 c = done _ _ _ _ _ c.loop-k.invariant.0 (omega arith)
 
 pub search_spec : {M : Type 1} → statement M
 search_spec =

@@ -15,7 +15,7 @@ slice-aggregate-note-places-2 c = search rules
 
 note-places-requires : tie.Need-note_places-requires
 note-places-requires c κs =
-    let s = c.before.before.before.before.before.requires in
+    let s = c.requires in
     (s.1, s.1, start_below s.0)
 
 clash-table-requires : tie.Need-clash_table-table-requires
@@ -32,11 +32,11 @@ slice-aggregate-search-3 c = search rules
 
 search-requires : tie.Need-search-requires
 search-requires c κs =
-    let s = c.before.before.before.before.before.before.before.before.before.before.before.before.before.before.requires in
+    let s = c.requires in
     record {
       search = s.0;
-      beside = c.before.before.before.before.before.before.before.before.note_places.ensures;
-      clashes = c.before.before.before.before.before.clash_table-table.ensures.0;
+      beside = c.note_places.ensures;
+      clashes = c.clash_table-table.ensures.0;
       noted = none_noted 4096 (omega (arith, s.1));
       room = s.2;
     }

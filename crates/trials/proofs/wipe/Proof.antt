@@ -26,13 +26,13 @@ loop-less : tie.Need-loop-p-smaller invariant-loop decreases-loop
 loop-less c = omega arith
 
 loop-again : tie.Need-loop-p-preserved invariant-loop decreases-loop
-loop-again c = fill_step c.before.loop-p.invariant _ (omega arith) (omega arith)
+loop-again c = fill_step c.loop-p.invariant _ (omega arith) (omega arith)
 
 same_length : tie.Need-shape_of-directions invariant-loop decreases-loop
 same_length c = omega arith
 
 returns : tie.Need-returns invariant-loop decreases-loop
-returns c = fill_end c.before.loop-p.invariant (omega arith)
+returns c = fill_end c.loop-p.invariant (omega arith)
 
 pub wipe_spec : {M : Type 1} → statement M
 wipe_spec =

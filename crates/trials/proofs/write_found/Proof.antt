@@ -29,21 +29,21 @@ same_length c = search rules
 
 returns : tie.Need-returns-in-Repaired
 unfolding finished
-returns c = c.before.before.write_plan.ensures ∙ sym (ap (finished _ _) c.before.before.before.before.in-Repaired.is)
+returns c = c.write_plan.ensures ∙ sym (ap (finished _ _) c.in-Repaired.is)
 
 same-length-2 : tie.Need-shape_of-directions-in-Beyond
 same-length-2 c = search rules
 
 returns-2 : tie.Need-returns-in-Beyond
 unfolding finished
-returns-2 c = c.before.before.wipe.ensures ∙ sym (ap (finished _ _) c.before.before.before.before.in-Beyond.is)
+returns-2 c = c.wipe.ensures ∙ sym (ap (finished _ _) c.in-Beyond.is)
 
 same-length-3 : tie.Need-shape_of-directions-in-Spent
 same-length-3 c = search rules
 
 returns-3 : tie.Need-returns-in-Spent
 unfolding finished
-returns-3 c = c.before.before.wipe-in-Spent.ensures ∙ sym (ap (finished _ _) c.before.before.before.before.in-Spent.is)
+returns-3 c = c.wipe-in-Spent.ensures ∙ sym (ap (finished _ _) c.in-Spent.is)
 
 pub write_found_spec : {M : Type 1} → statement M
 write_found_spec =

@@ -17,7 +17,7 @@ wipe-requires : tie.Need-wipe-requires invariant-loop decreases-loop
 wipe-requires c κs = search rules
 
 loop-holds : tie.Need-loop-k-init invariant-loop decreases-loop
-loop-holds c = write_start _ _ _ c.before.before.wipe.ensures
+loop-holds c = write_start _ _ _ c.wipe.ensures
 
 sub-k : tie.Need-overflow_sub-k invariant-loop decreases-loop
 sub-k c = omega arith
@@ -32,24 +32,24 @@ shared-slice-read-directions-2 : tie.Need-bounds-starts-k invariant-loop decreas
 shared-slice-read-directions-2 c = omega arith
 
 cast-directions : tie.Need-overflow_cast-directions invariant-loop decreases-loop
-cast-directions c = omega (arith, c.shared_slice_known-in-loop-k-2-1.given (c.before.before.before.loop-k.k - 1))
+cast-directions c = omega (arith, c.shared_slice_known-in-loop-k-2-1.given (c.loop-k.k - 1))
 
 slice-write-directions : tie.Need-bounds-directions-starts invariant-loop decreases-loop
 slice-write-directions c =
-    omega (arith, c.before.before.before.before.before.before.before.before.before.before.before.requires.2 (c.before.before.before.loop-k.k - 1) (omega arith))
+    omega (arith, c.requires.2 (c.loop-k.k - 1) (omega arith))
 
 loop-less : tie.Need-loop-k-smaller invariant-loop decreases-loop
 loop-less c = omega arith
 
 loop-again : tie.Need-loop-k-preserved invariant-loop decreases-loop
 loop-again c =
-    write_step _ _ c.before.before.before.loop-k.invariant (omega arith) c.before.before.before.before.before.before.before.before.before.before.before.requires.1 (c.before.before.before.before.before.before.before.before.before.before.before.requires.2 (c.before.before.before.loop-k.k - 1) (omega arith))
+    write_step _ _ c.loop-k.invariant (omega arith) c.requires.1 (c.requires.2 (c.loop-k.k - 1) (omega arith))
 
 same_length : tie.Need-shape_of-directions invariant-loop decreases-loop
-same_length c = omega (arith, c.before.loop-k.invariant.long)
+same_length c = omega (arith, c.loop-k.invariant.long)
 
 returns : tie.Need-returns invariant-loop decreases-loop
-returns c = write_end _ _ c.before.loop-k.invariant (omega arith)
+returns c = write_end _ _ c.loop-k.invariant (omega arith)
 
 pub write_plan_spec : {M : Type 1} → statement M
 write_plan_spec =

@@ -26,12 +26,12 @@ check-without-grid-requires c κs = search rules
 returns : tie.Need-returns-in-Map
 unfolding buffer_test
 returns c =
-    let a = c.before.before.before.args in
-    rw c.before.in-Map.is
+    let a = c.args in
+    rw c.in-Map.is
     (c.check_map.ensures ∙ ap (λ (z : Bool). map_tests a.n a.m z a.b.now) (sym (and_one (long a.b.now))))
 
 returns-2 : tie.Need-returns-in-Plan
-returns-2 c = rw c.before.in-Plan.is c.check_without_grid.ensures
+returns-2 c = rw c.in-Plan.is c.check_without_grid.ensures
 
 pub check_buffer_spec : {M : Type 1} → statement M
 check_buffer_spec =

@@ -31,10 +31,10 @@ is-inner-requires c κs = search rules
 
 returns : tie.Need-returns-then-d-is_inner invariant-loop decreases-loop
 returns c =
-    let a = c.before.before.before.before.before.before.args in
-    let p = c.before.before.before.before.loop-p.p in
-    seek_stop_if c.before.before.before.before.loop-p.invariant 4 p 0 (omega arith) refl
-    (path_tested a.n a.m p (get_or a.directions.now p 0) c.before.is_inner.ensures) c.if-d-is_inner.true
+    let a = c.args in
+    let p = c.loop-p.p in
+    seek_stop_if c.loop-p.invariant 4 p 0 (omega arith) refl
+    (path_tested a.n a.m p (get_or a.directions.now p 0) c.is_inner.ensures) c.if-d-is_inner.true
 
 add-p : tie.Need-overflow_step-p invariant-loop decreases-loop
 add-p c = omega arith
@@ -44,13 +44,13 @@ loop-less c = omega arith
 
 loop-again : tie.Need-loop-p-preserved invariant-loop decreases-loop
 loop-again c =
-    let a = c.before.before.before.before.before.before.args in
-    let p = c.before.before.before.before.loop-p.p in
-    seek_pass_if c.before.before.before.before.loop-p.invariant 4 p 0 (omega arith) refl
-    (path_tested a.n a.m p (get_or a.directions.now p 0) c.before.is_inner.ensures) c.if-d-is_inner.false
+    let a = c.args in
+    let p = c.loop-p.p in
+    seek_pass_if c.loop-p.invariant 4 p 0 (omega arith) refl
+    (path_tested a.n a.m p (get_or a.directions.now p 0) c.is_inner.ensures) c.if-d-is_inner.false
 
 returns-2 : tie.Need-returns invariant-loop decreases-loop
-returns-2 c = seek_none c.before.loop-p.invariant (omega arith)
+returns-2 c = seek_none c.loop-p.invariant (omega arith)
 
 pub check_paths_spec : {M : Type 1} → statement M
 check_paths_spec =

@@ -13,9 +13,9 @@ use Rattle.writers.proofs.check_without_grid.Tie as tie
 -- the first test, as the code answers it
 sizes :
     (c : tie.After-is_size-2) →
-    let a = c.before.before.before.args in
-    not (c.before.is_size.result && c.is_size-2.result) ≡ not (size a.n && size a.m)
-sizes c = rw (c.before.is_size.ensures, c.is_size-2.ensures)
+    let a = c.args in
+    not (c.is_size.result && c.is_size-2.result) ≡ not (size a.n && size a.m)
+sizes c = rw (c.is_size.ensures, c.is_size-2.ensures)
 
 is-size-requires : tie.Need-is_size-requires
 is-size-requires c κs = search rules
@@ -30,8 +30,8 @@ returns c = test_refuses (sizes c.before) _ c.if-not-is_size.true-raw
 returns-2 : tie.Need-returns-then-directions-ne1024
 unfolding buffer_test
 returns-2 c =
-    test_passes (sizes c.before.before) _ _ _ c.before.if-not-is_size.false-raw
-    (short_refuses c.before.before.before.before.before.args.directions.now _ c.if-directions-ne1024.true)
+    test_passes (sizes c.before.before) _ _ _ c.if-not-is_size.false-raw
+    (short_refuses c.args.directions.now _ c.if-directions-ne1024.true)
 
 check-paths-requires : tie.Need-check_paths-requires
 check-paths-requires c κs = search rules
@@ -39,8 +39,8 @@ check-paths-requires c κs = search rules
 returns-3 : tie.Need-returns
 unfolding buffer_test
 returns-3 c =
-    test_passes (sizes c.before.before.before) _ _ _ c.before.before.if-not-is_size.false-raw
-    (long_passes c.before.before.before.before.before.before.args.directions.now c.before.if-directions-ne1024.false
+    test_passes (sizes c.before.before.before) _ _ _ c.if-not-is_size.false-raw
+    (long_passes c.args.directions.now c.if-directions-ne1024.false
     c.check_paths.ensures)
 
 pub check_without_grid_spec : {M : Type 1} → statement M

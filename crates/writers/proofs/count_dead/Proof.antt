@@ -14,7 +14,7 @@ enum-told-2 : tie.Need-enum_told-in-Plan
 enum-told-2 c = search rules
 
 returns : tie.Need-returns-in-Map
-returns c = rw c.before.in-Map.is c.count_records.ensures
+returns c = rw c.in-Map.is c.count_records.ensures
 
 returns-2 : tie.Need-returns-in-Plan
 returns-2 c = search rules

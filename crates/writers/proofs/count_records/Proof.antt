@@ -35,8 +35,8 @@ loop-less c = omega arith
 
 loop-again : tie.Need-loop-p-preserved invariant-loop decreases-loop
 loop-again c =
-    let s = c.before.before.before.before.loop-p.invariant in
-    let e = c.before.is_recorded.ensures _ in
+    let s = c.loop-p.invariant in
+    let e = c.is_recorded.ensures _ in
     ⊎_elim
     (λ w. rw w.count-is (count_take s (omega arith) e w.if-is_recorded.true))
     (λ w. rw w.count-is (count_skip s (omega arith) e w.if-is_recorded.false))
@@ -44,7 +44,7 @@ loop-again c =
 
 returns : tie.Need-returns invariant-loop decreases-loop
 unfolding record_count
-returns c = (count_end c.before.loop-p.invariant (omega arith), omega arith)
+returns c = (count_end c.loop-p.invariant (omega arith), omega arith)
 
 pub count_records_spec : {M : Type 1} → statement M
 count_records_spec =

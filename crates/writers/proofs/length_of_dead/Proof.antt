@@ -15,7 +15,7 @@ length-of-list-requires : tie.Need-length_of_list-requires
 length-of-list-requires c κs = search rules
 
 returns-2 : tie.Need-returns
-returns-2 c = (c.length_of_list.ensures.0 ∙ sym (cond_left 0 _ refl (ne_eqb _ 0 c.before.if-dead-eq0.false)), c.length_of_list.ensures.1)
+returns-2 c = (c.length_of_list.ensures.0 ∙ sym (cond_left 0 _ refl (ne_eqb _ 0 c.if-dead-eq0.false)), c.length_of_list.ensures.1)
 
 pub length_of_dead_spec : {M : Type 1} → statement M
 length_of_dead_spec = tie.close (tie.spec returns length-of-list-requires returns-2)

@@ -18,11 +18,11 @@ number-length-requires : tie.Need-number_length-requires
 number-length-requires c κs = search rules
 
 returns : tie.Need-returns-in-Map
-returns c = rw c.before.in-Map.is c.length_of_dead.ensures
+returns c = rw c.in-Map.is c.length_of_dead.ensures
 
 returns-2 : tie.Need-returns-in-Plan
 returns-2 c =
-    let w = c.number_length.ensures in rw c.before.in-Plan.is (w.0, omega (arith, w.1))
+    let w = c.number_length.ensures in rw c.in-Plan.is (w.0, omega (arith, w.1))
 
 pub length_of_rest_spec : {M : Type 1} → statement M
 length_of_rest_spec =

@@ -21,28 +21,28 @@ use Rattle.writers.proofs.write_checked.Tie as tie
 -- the count of the first list
 counted :
     (c : tie.After-count_records-count) →
-    let a = c.before.before.before.before.args in
+    let a = c.args in
     c.count_records-count.result ≡ record_count (first_list a.kind) a.b.now
 counted c =
-    let a = c.before.before.before.before.args in
-    c.count_records-count.ensures.0 ∙ ap (λ (r : Record). record_count r a.b.now) c.before.first_list-first.ensures
+    let a = c.args in
+    c.count_records-count.ensures.0 ∙ ap (λ (r : Record). record_count r a.b.now) c.first_list-first.ensures
 
 -- the length that the code computes
 needed :
     (c : tie.After-length_of_rest) →
-    let a = c.before.before.before.before.before.before.before.args in
-    2 + c.before.length_of_list.result + c.length_of_rest.result
+    let a = c.args in
+    2 + c.length_of_list.result + c.length_of_rest.result
     ≡ length (file_bytes a.kind a.n a.m a.b.now a.trials)
 needed c =
-    let a = c.before.before.before.before.before.before.before.args in
-    let p : Passed a.kind a.n a.m a.b.now = passed _ _ _ _ c.before.before.before.before.before.before.before.requires in
+    let a = c.args in
+    let p : Passed a.kind a.n a.m a.b.now = passed _ _ _ _ c.requires in
     let first =
-    c.before.length_of_list.ensures.0
-    ∙ ap (λ (r : Record). list_length r c.before.before.before.count_records-count.result) c.before.before.before.before.first_list-first.ensures
+    c.length_of_list.ensures.0
+    ∙ ap (λ (r : Record). list_length r c.count_records-count.result) c.first_list-first.ensures
     ∙ ap (list_length (first_list a.kind)) (counted c.before.before.before) in
     let rest =
     c.length_of_rest.ensures.0
-    ∙ ap (λ (k : ℕ). rest_length a.kind k a.trials) c.before.before.count_dead-dead.ensures.0 in
+    ∙ ap (λ (k : ℕ). rest_length a.kind k a.trials) c.count_dead-dead.ensures.0 in
     omega (
       arith,
       file_length a.b.now p.is_long p.small a.kind a.n a.m a.trials
@@ -54,30 +54,30 @@ needed c =
 -- the file, and its tests as the code answers them
 abbrev file : tie.After-or_else-v → List ℕ
 file c =
-    let a = c.before.before.before.before.before.before.before.before.before.before.args in
+    let a = c.args in
     file_bytes a.kind a.n a.m a.b.now a.trials
 
 tested :
     (c : tie.After-or_else-v) →
-    let a = c.before.before.before.before.before.before.before.before.before.before.args in
+    let a = c.args in
     c.or_else-v.result ≡ or_else (trials_test a.kind a.trials) (room_test (file c) a.out.now)
 tested c =
-    let a = c.before.before.before.before.before.before.before.before.before.before.args in
+    let a = c.args in
     let room =
-    c.before.check_room.ensures
+    c.check_room.ensures
     ∙ ap (λ (k : ℕ). room_for k (length a.out.now)) (needed c.before.before.before) in
-    c.or_else-v.ensures ∙ rw (c.before.before.check_trials.ensures, room)
+    c.or_else-v.ensures ∙ rw (c.check_trials.ensures, room)
 
 first-list-requires : tie.Need-first_list-first-requires
 first-list-requires c κs = search rules
 
 count-records-requires : tie.Need-count_records-count-requires
 count-records-requires c κs =
-    let a = c.before.before.before.args in (passed a.kind a.n a.m a.b.now c.before.before.before.requires).is_long
+    let a = c.args in (passed a.kind a.n a.m a.b.now c.requires).is_long
 
 count-dead-requires : tie.Need-count_dead-dead-requires
 count-dead-requires c κs =
-    let a = c.before.before.before.before.args in (passed a.kind a.n a.m a.b.now c.before.before.before.before.requires).is_long
+    let a = c.args in (passed a.kind a.n a.m a.b.now c.requires).is_long
 
 length-of-list-requires : tie.Need-length_of_list-requires
 length-of-list-requires c κs = search rules
@@ -105,7 +105,7 @@ enum-known-v c = search rules
 
 returns : tie.Need-returns-in-Refused
 returns c =
-    let a = c.before.before.before.before.before.before.before.before.before.before.before.args in
+    let a = c.args in
     sym (put_refused (file c.before) a.out.now _ (sym (tested c.before) ∙ c.in-Refused.is))
 
 enum_told : tie.Need-enum_told-1
@@ -113,9 +113,9 @@ enum_told c = search rules
 
 write-parts-requires : tie.Need-write_parts-requires
 write-parts-requires c κs =
-    let a = c.before.before.before.before.before.before.before.before.before.before.before.before.args in
-    let p = passed a.kind a.n a.m a.b.now c.before.before.before.before.before.before.before.before.before.before.before.before.requires in
-    let x = both_accepted _ _ (sym (tested c.before.before) ∙ c.before.in_default.is) in
+    let a = c.args in
+    let p = passed a.kind a.n a.m a.b.now c.requires in
+    let x = both_accepted _ _ (sym (tested c.before.before) ∙ c.in_default.is) in
     record {
       rows = p.sizes.rows_high;
       columns = p.sizes.columns_high;
@@ -123,9 +123,9 @@ write-parts-requires c κs =
           record {
             long = p.is_long;
             counted = counted c.before.before.before.before.before.before.before.before;
-            few = c.before.before.before.before.before.before.before.before.count_records-count.ensures.1;
-            dead_counted = c.before.before.before.before.before.before.before.count_dead-dead.ensures.0;
-            few_dead = c.before.before.before.before.before.before.before.count_dead-dead.ensures.1;
+            few = c.count_records-count.ensures.1;
+            dead_counted = c.count_dead-dead.ensures.0;
+            few_dead = c.count_dead-dead.ensures.1;
             low_trials = x.0;
           };
       room = room_enough (file c.before.before) a.out.now x.1;
@@ -136,11 +136,11 @@ same_length c = search rules
 
 returns-2 : tie.Need-returns
 returns-2 c =
-    let a = c.before.before.before.before.before.before.before.before.before.before.before.before.before.before.before.args in
-    let w = c.before.before.write_parts.ensures in
+    let a = c.args in
+    let w = c.write_parts.ensures in
     rw (w.0, w.1, zero-add)
     (sym (put_tested (file c.before.before.before.before.before) a.out.now (trials_test a.kind a.trials)
-    (sym (tested c.before.before.before.before.before) ∙ c.before.before.before.before.in_default.is)))
+    (sym (tested c.before.before.before.before.before) ∙ c.in_default.is)))
 
 pub write_checked_spec : {M : Type 1} → statement M
 write_checked_spec =

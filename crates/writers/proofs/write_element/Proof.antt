@@ -12,11 +12,11 @@ is-recorded-requires c κs = search rules
 
 write-record-requires : tie.Need-write_record-requires
 write-record-requires c κs =
-    let a = c.before.before.before.before.args in (
-      c.before.before.before.before.requires.0,
+    let a = c.args in (
+      c.requires.0,
       rw
-          (element_some a.kind a.p a.v (c.before.before.is_recorded.ensures _)
-          c.before.if-is_recorded.true) at c.before.before.before.before.requires.1,
+          (element_some a.kind a.p a.v (c.is_recorded.ensures _)
+          c.if-is_recorded.true) at c.requires.1,
     )
 
 same_length : tie.Need-shape_of-out-then-is_recorded
@@ -24,14 +24,14 @@ same_length c = search rules
 
 returns : tie.Need-returns-then-is_recorded
 returns c =
-    let a = c.before.before.before.before.before.before.before.args in
-    rw (element_some a.kind a.p a.v (c.before.before.before.before.before.is_recorded.ensures _)
-    c.before.before.before.before.if-is_recorded.true) c.before.before.write_record.ensures
+    let a = c.args in
+    rw (element_some a.kind a.p a.v (c.is_recorded.ensures _)
+    c.if-is_recorded.true) c.write_record.ensures
 
 returns-2 : tie.Need-returns
 returns-2 c =
-    let a = c.before.before.before.args in
-    rw (element_none a.kind a.p a.v (c.before.is_recorded.ensures _) c.if-is_recorded.false) (omega arith, refl)
+    let a = c.args in
+    rw (element_none a.kind a.p a.v (c.is_recorded.ensures _) c.if-is_recorded.false) (omega arith, refl)
 
 pub write_element_spec : {M : Type 1} → statement M
 write_element_spec =

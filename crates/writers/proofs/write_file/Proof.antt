@@ -14,26 +14,26 @@ enum-known-v c = search rules
 
 returns : tie.Need-returns-in-Refused
 returns c =
-    let a = c.before.before.before.before.args in
+    let a = c.args in
     sym (file_refused a.kind a.n a.m a.b.now a.trials a.out.now _
-    (sym c.before.check_buffer-v.ensures ∙ c.in-Refused.is))
+    (sym c.check_buffer-v.ensures ∙ c.in-Refused.is))
 
 enum_told : tie.Need-enum_told-1
 enum_told c = search rules
 
 write-checked-requires : tie.Need-write_checked-requires
-write-checked-requires c κs = sym c.before.before.check_buffer-v.ensures ∙ c.before.in_default.is
+write-checked-requires c κs = sym c.check_buffer-v.ensures ∙ c.in_default.is
 
 same_length : tie.Need-shape_of-out
 same_length c = search rules
 
 returns-2 : tie.Need-returns
 returns-2 c =
-    let a = c.before.before.before.before.before.before.before.before.args in
-    c.before.before.write_checked.ensures
+    let a = c.args in
+    c.write_checked.ensures
     ∙ sym (file_accepted a.kind a.n a.m a.b.now a.trials a.out.now
-    (sym c.before.before.before.before.before.check_buffer-v.ensures
-    ∙ c.before.before.before.before.in_default.is))
+    (sym c.check_buffer-v.ensures
+    ∙ c.in_default.is))
 
 pub write_file_spec : {M : Type 1} → statement M
 write_file_spec =

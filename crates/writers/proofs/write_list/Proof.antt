@@ -12,17 +12,17 @@ use Rattle.writers.proofs.write_list.Tie as tie
 
 write-number-requires : tie.Need-write_number-next-requires
 write-number-requires c κs =
-    let a = c.before.before.before.args in
-    let f = c.before.before.before.requires in
+    let a = c.args in
+    let f = c.requires in
     let r = run_start a.out.now a.at (list_bytes a.kind a.b.now) f.3 in
     (omega (arith, f.2), run_room r (count_first a.kind a.count a.b.now f.1))
 
 write-records-requires : tie.Need-write_records-requires
 write-records-requires c κs =
-    let a = c.before.before.before.before.before.before.before.args in
-    let f = c.before.before.before.before.before.before.before.requires in
+    let a = c.args in
+    let f = c.requires in
     let r = run_start a.out.now a.at (list_bytes a.kind a.b.now) f.3 in
-    let w = c.before.before.before.write_number-next.ensures in
+    let w = c.write_number-next.ensures in
     let s = run_step r (count_first a.kind a.count a.b.now f.1) w.0 w.1 in
     (f.0, run_room s (splits_all (records_of a.kind a.b.now)))
 
@@ -31,12 +31,12 @@ same_length c = search rules
 
 returns : tie.Need-returns
 returns c =
-    let a = c.before.before.before.before.before.before.before.before.before.before.args in
-    let f = c.before.before.before.before.before.before.before.before.before.before.requires in
+    let a = c.args in
+    let f = c.requires in
     let r = run_start a.out.now a.at (list_bytes a.kind a.b.now) f.3 in
-    let w = c.before.before.before.before.before.before.write_number-next.ensures in
+    let w = c.write_number-next.ensures in
     let s = run_step r (count_first a.kind a.count a.b.now f.1) w.0 w.1 in
-    let x = c.before.before.write_records.ensures in
+    let x = c.write_records.ensures in
     run_end (run_step s (splits_all (records_of a.kind a.b.now)) x.0 x.1) refl
 
 pub write_list_spec : {M : Type 1} → statement M

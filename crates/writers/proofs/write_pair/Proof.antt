@@ -10,28 +10,28 @@ use Rattle.writers.proofs.write_pair.Tie as tie
 
 write-number-requires : tie.Need-write_number-second-requires
 write-number-requires c κs =
-    let a = c.before.before.args in
-    let r = run_start a.out.now a.at (pair_bytes a.x a.y) c.before.before.requires.2 in
-    (c.before.before.requires.0, run_room r (splits (bytes_of a.x) (bytes_of a.y)))
+    let a = c.args in
+    let r = run_start a.out.now a.at (pair_bytes a.x a.y) c.requires.2 in
+    (c.requires.0, run_room r (splits (bytes_of a.x) (bytes_of a.y)))
 
 write-number-requires-2 : tie.Need-write_number-requires
 write-number-requires-2 c κs =
-    let a = c.before.before.before.before.before.before.args in
-    let w = c.before.before.before.write_number-second.ensures in
-    let r = run_start a.out.now a.at (pair_bytes a.x a.y) c.before.before.before.before.before.before.requires.2 in
+    let a = c.args in
+    let w = c.write_number-second.ensures in
+    let r = run_start a.out.now a.at (pair_bytes a.x a.y) c.requires.2 in
     let s = run_step r (splits (bytes_of a.x) (bytes_of a.y)) w.0 w.1 in
-    (c.before.before.before.before.before.before.requires.1, run_room s (splits_all (bytes_of a.y)))
+    (c.requires.1, run_room s (splits_all (bytes_of a.y)))
 
 same_length : tie.Need-shape_of-out
 same_length c = search rules
 
 returns : tie.Need-returns
 returns c =
-    let a = c.before.before.before.before.before.before.before.before.before.args in
-    let w = c.before.before.before.before.before.before.write_number-second.ensures in
-    let x = c.before.before.write_number.ensures in
+    let a = c.args in
+    let w = c.write_number-second.ensures in
+    let x = c.write_number.ensures in
     let r = run_start a.out.now a.at (pair_bytes a.x a.y)
-    c.before.before.before.before.before.before.before.before.before.requires.2 in
+    c.requires.2 in
     let s = run_step r (splits (bytes_of a.x) (bytes_of a.y)) w.0 w.1 in
     run_end (run_step s (splits_all (bytes_of a.y)) x.0 x.1) refl
 

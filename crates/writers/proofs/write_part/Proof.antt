@@ -13,8 +13,8 @@ first-list-requires c κs = search rules
 
 write-list-requires : tie.Need-write_list-requires
 write-list-requires c κs =
-    let f = c.before.before.before.before.before.requires in
-    rw c.before.first_list.ensures (f.0.long, f.0.counted, f.0.few, rw c.before.before.in-First.is at f.1)
+    let f = c.requires in
+    rw c.first_list.ensures (f.0.long, f.0.counted, f.0.few, rw c.in-First.is at f.1)
 
 enum-told-2 : tie.Need-enum_told-in-Rest
 enum-told-2 c = search rules
@@ -24,42 +24,42 @@ enum-told-3 c = search rules
 
 write-dead-requires : tie.Need-write_dead-requires
 write-dead-requires c κs =
-    let f = c.before.before.before.before.before.requires in
-    let k = c.before.in-Map.is in
+    let f = c.requires in
+    let k = c.in-Map.is in
     let d = rw k at f.0.dead_counted in
-    (f.0.long, d, f.0.few_dead, rw d (rw (c.before.before.in-Rest.is, k) at f.1))
+    (f.0.long, d, f.0.few_dead, rw d (rw (c.in-Rest.is, k) at f.1))
 
 enum-told-4 : tie.Need-enum_told-in-Plan
 enum-told-4 c = search rules
 
 write-number-requires : tie.Need-write_number-requires
 write-number-requires c κs =
-    let f = c.before.before.before.before.before.requires in
-    let k = c.before.in-Plan.is in
-    (trials_low _ (rw k at f.0.low_trials), rw (c.before.before.in-Rest.is, k) at f.1)
+    let f = c.requires in
+    let k = c.in-Plan.is in
+    (trials_low _ (rw k at f.0.low_trials), rw (c.in-Rest.is, k) at f.1)
 
 same_length : tie.Need-shape_of-out-in-First
 same_length c = search rules
 
 returns : tie.Need-returns-in-First
 returns c =
-    rw c.before.before.before.before.before.in-First.is (rw c.before.before.before.before.first_list.ensures at c.before.before.write_list.ensures)
+    rw c.in-First.is (rw c.first_list.ensures at c.write_list.ensures)
 
 same-length-2 : tie.Need-shape_of-out-in-Map
 same-length-2 c = search rules
 
 returns-2 : tie.Need-returns-in-Map
 returns-2 c =
-    let k = c.before.before.before.before.in-Map.is in
-    rw (c.before.before.before.before.before.in-Rest.is, k)
-    (rw (rw k at c.before.before.before.before.before.before.before.before.requires.0.dead_counted) at c.before.before.write_dead.ensures)
+    let k = c.in-Map.is in
+    rw (c.in-Rest.is, k)
+    (rw (rw k at c.requires.0.dead_counted) at c.write_dead.ensures)
 
 same-length-3 : tie.Need-shape_of-out-in-Plan
 same-length-3 c = search rules
 
 returns-3 : tie.Need-returns-in-Plan
 returns-3 c =
-    rw (c.before.before.before.before.before.in-Rest.is, c.before.before.before.before.in-Plan.is) c.before.before.write_number.ensures
+    rw (c.in-Rest.is, c.in-Plan.is) c.write_number.ensures
 
 pub write_part_spec : {M : Type 1} → statement M
 write_part_spec =

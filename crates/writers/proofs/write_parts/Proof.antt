@@ -36,8 +36,8 @@ module _ {kind : Kind} {n m count dead t : ℕ} {b out : List ℕ} (f : Fitting 
 
 write-pair-requires : tie.Need-write_pair-third-requires
 write-pair-requires c κs =
-    let a = c.before.before.before.args in
-    let f = c.before.before.before.requires in (
+    let a = c.args in
+    let f = c.requires in (
       omega (arith, f.rows),
       omega (arith, f.columns),
       run_room (start f) (sizes_first a.kind a.n a.m a.b.now a.trials),
@@ -45,15 +45,15 @@ write-pair-requires c κs =
 
 write-part-requires : tie.Need-write_part-end-requires
 write-part-requires c κs =
-    let f = c.before.before.before.before.before.before.before.requires in
-    let w = c.before.before.before.write_pair-third.ensures in
+    let f = c.requires in
+    let w = c.write_pair-third.ensures in
     (f.parts, run_room (sized f w.0 w.1) (lists f))
 
 write-part-requires-2 : tie.Need-write_part-requires
 write-part-requires-2 c κs =
-    let f = c.before.before.before.before.before.before.before.before.before.before.before.requires in
-    let w = c.before.before.before.before.before.before.before.write_pair-third.ensures in
-    let x = c.before.before.before.write_part-end.ensures in
+    let f = c.requires in
+    let w = c.write_pair-third.ensures in
+    let x = c.write_part-end.ensures in
     (f.parts, run_room (run_step (sized f w.0 w.1) (lists f) x.0 x.1) (last f))
 
 same_length : tie.Need-shape_of-out
@@ -61,10 +61,10 @@ same_length c = search rules
 
 returns : tie.Need-returns
 returns c =
-    let f = c.before.before.before.before.before.before.before.before.before.before.before.before.before.before.requires in
-    let w = c.before.before.before.before.before.before.before.before.before.before.write_pair-third.ensures in
-    let x = c.before.before.before.before.before.before.write_part-end.ensures in
-    let y = c.before.before.write_part.ensures in
+    let f = c.requires in
+    let w = c.write_pair-third.ensures in
+    let x = c.write_part-end.ensures in
+    let y = c.write_part.ensures in
     let t = run_step (sized f w.0 w.1) (lists f) x.0 x.1 in
     run_end (run_step t (last f) y.0 y.1) refl
 

@@ -13,7 +13,7 @@ same_length : tie.Need-shape_of-out
 same_length c = search rules
 
 returns : tie.Need-returns
-returns c = answered told c.before.before.write_file.ensures
+returns c = answered told c.write_file.ensures
 
 pub write_plan_spec : {M : Type 1} → statement M
 write_plan_spec = tie.close (tie.spec write-file-requires same_length returns)

@@ -12,16 +12,16 @@ use Rattle.writers.proofs.write_record.Tie as tie
 
 write-pair-requires : tie.Need-write_pair-third-requires
 write-pair-requires c κs =
-    let a = c.before.before.args in
-    let r = run_start a.out.now a.at (record_bytes a.kind a.p a.v) c.before.before.requires.1 in
+    let a = c.args in
+    let r = run_start a.out.now a.at (record_bytes a.kind a.p a.v) c.requires.1 in
     (omega arith, omega arith, run_room r (pair_first a.kind a.p a.v))
 
 write-value-requires : tie.Need-write_value-requires
 write-value-requires c κs =
-    let a = c.before.before.before.before.before.before.args in
-    let w = c.before.before.before.write_pair-third.ensures in
+    let a = c.args in
+    let w = c.write_pair-third.ensures in
     let r = run_start a.out.now a.at (record_bytes a.kind a.p a.v)
-    c.before.before.before.before.before.before.requires.1 in
+    c.requires.1 in
     let s = run_step r (pair_first a.kind a.p a.v) w.0 w.1 in
     run_room s (splits_all (value_bytes a.kind a.v))
 
@@ -30,11 +30,11 @@ same_length c = search rules
 
 returns : tie.Need-returns
 returns c =
-    let a = c.before.before.before.before.before.before.before.before.before.args in
-    let w = c.before.before.before.before.before.before.write_pair-third.ensures in
-    let x = c.before.before.write_value.ensures in
+    let a = c.args in
+    let w = c.write_pair-third.ensures in
+    let x = c.write_value.ensures in
     let r = run_start a.out.now a.at (record_bytes a.kind a.p a.v)
-    c.before.before.before.before.before.before.before.before.before.requires.1 in
+    c.requires.1 in
     let s = run_step r (pair_first a.kind a.p a.v) w.0 w.1 in
     run_end (run_step s (splits_all (value_bytes a.kind a.v)) x.0 x.1) refl
 

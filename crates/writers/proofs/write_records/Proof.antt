@@ -15,17 +15,17 @@ abbrev decreases-loop : tie.decreases-loop-p
 decreases-loop kind out₀ start b at₀ p₀ out at p = 1024 - p
 
 loop-holds : tie.Need-loop-p-init invariant-loop decreases-loop
-loop-holds c = (omega arith, run_start _ _ _ c.before.before.requires.1)
+loop-holds c = (omega arith, run_start _ _ _ c.requires.1)
 
 shared-slice-read-write-element : tie.Need-bounds-b-p invariant-loop decreases-loop
 shared-slice-read-write-element c = omega arith
 
 write-element-requires : tie.Need-write_element-at-requires invariant-loop decreases-loop
 write-element-requires c κs =
-    let a = c.before.before.before.before.before.before.args in (
+    let a = c.args in (
       omega arith,
-      run_room c.before.before.before.loop-p.invariant.1
-          (records_turn a.kind a.b.now c.before.before.before.loop-p.p (omega arith)),
+      run_room c.loop-p.invariant.1
+          (records_turn a.kind a.b.now c.loop-p.p (omega arith)),
     )
 
 add-p : tie.Need-overflow_step-p invariant-loop decreases-loop
@@ -36,20 +36,20 @@ loop-less c = omega arith
 
 loop-again : tie.Need-loop-p-preserved invariant-loop decreases-loop
 loop-again c =
-    let a = c.before.before.before.before.before.before.before.before.before.args in
-    let w = c.before.before.write_element-at.ensures in (
+    let a = c.args in
+    let w = c.write_element-at.ensures in (
       omega arith,
-      run_step c.before.before.before.before.before.before.loop-p.invariant.1
-          (records_turn a.kind a.b.now c.before.before.before.before.before.before.loop-p.p (omega arith)) w.0 w.1,
+      run_step c.loop-p.invariant.1
+          (records_turn a.kind a.b.now c.loop-p.p (omega arith)) w.0 w.1,
     )
 
 same_length : tie.Need-shape_of-out invariant-loop decreases-loop
-same_length c = c.before.loop-p.invariant.1.long
+same_length c = c.loop-p.invariant.1.long
 
 returns : tie.Need-returns invariant-loop decreases-loop
 returns c =
-    let a = c.before.before.before.before.args in
-    run_end c.before.loop-p.invariant.1 (records_end a.kind a.b.now c.before.loop-p.p (omega arith))
+    let a = c.args in
+    run_end c.loop-p.invariant.1 (records_end a.kind a.b.now c.loop-p.p (omega arith))
 
 pub write_records_spec : {M : Type 1} → statement M
 write_records_spec =

@@ -16,7 +16,7 @@ enum-told-3 : tie.Need-enum_told-in-Path
 enum-told-3 c = search rules
 
 write-number-requires : tie.Need-write_number-requires
-write-number-requires c κs = (omega arith, rw c.before.in-Path.is at c.before.before.before.requires)
+write-number-requires c κs = (omega arith, rw c.in-Path.is at c.requires)
 
 returns : tie.Need-returns-in-Fault
 returns c = rw c.in-Fault.is (omega arith, refl)
@@ -28,7 +28,7 @@ same_length : tie.Need-shape_of-out
 same_length c = search rules
 
 returns-3 : tie.Need-returns-in-Path
-returns-3 c = rw c.before.before.before.before.in-Path.is c.before.before.write_number.ensures
+returns-3 c = rw c.in-Path.is c.write_number.ensures
 
 pub write_value_spec : {M : Type 1} → statement M
 write_value_spec =
