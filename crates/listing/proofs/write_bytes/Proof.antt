@@ -10,43 +10,43 @@ use Rattle.listing.proofs.Along.{list_turn, list_end}
 use Rattle.listing.proofs.write_bytes.Statement.{statement}
 use Rattle.listing.proofs.write_bytes.Tie as tie
 
-abbrev invariant-loop : tie.invariant-loop
+abbrev invariant-loop : tie.invariant-loop-i
 invariant-loop out₀ start bytes at₀ i₀ i-end out at i = (i ≤ length bytes) × (i-end ≡ length bytes) × Run out₀ start bytes out at (drop i bytes)
 
-abbrev decreases-loop : tie.decreases-loop
+abbrev decreases-loop : tie.decreases-loop-i
 decreases-loop out₀ start bytes at₀ i₀ i-end out at i = length bytes - i
 
-loop-holds : tie.Need-loop-init invariant-loop decreases-loop
+loop-holds : tie.Need-loop-i-init invariant-loop decreases-loop
 loop-holds c = (omega arith, refl, run_start _ _ _ c.requires)
 
-shared-slice-read-out : tie.Need-shared-slice-read-out invariant-loop decreases-loop
+shared-slice-read-out : tie.Need-bounds-bytes-i invariant-loop decreases-loop
 shared-slice-read-out c = omega arith
 
-slice-write-out : tie.Need-slice-write-out invariant-loop decreases-loop
-slice-write-out c = let r = run_room c.before.before.loop.invariant.2 (list_turn c.before.before.before.args.bytes.now c.before.before.loop.i (omega arith)) in
+slice-write-out : tie.Need-bounds-out-at invariant-loop decreases-loop
+slice-write-out c = let r = run_room c.loop-i.invariant.2 (list_turn c.args.bytes.now c.loop-i.i (omega arith)) in
     omega arith
 
-add_at : tie.Need-overflow-add-at invariant-loop decreases-loop
-add_at c = let r = run_room c.before.before.loop.invariant.2 (list_turn c.before.before.before.args.bytes.now c.before.before.loop.i (omega arith)) in
+add_at : tie.Need-overflow_add-at invariant-loop decreases-loop
+add_at c = let r = run_room c.loop-i.invariant.2 (list_turn c.args.bytes.now c.loop-i.i (omega arith)) in
     search rules
 
-add-i : tie.Need-overflow-add-i invariant-loop decreases-loop
+add-i : tie.Need-overflow_step-i invariant-loop decreases-loop
 add-i c = search rules
 
-loop-less : tie.Need-loop-smaller invariant-loop decreases-loop
+loop-less : tie.Need-loop-i-smaller invariant-loop decreases-loop
 loop-less c = omega arith
 
-loop-again : tie.Need-loop-preserved invariant-loop decreases-loop
-loop-again c = (omega arith, c.before.before.loop.invariant.1, run_step c.before.before.loop.invariant.2 (list_turn c.before.before.before.args.bytes.now c.before.before.loop.i (omega arith)) refl refl)
+loop-again : tie.Need-loop-i-preserved invariant-loop decreases-loop
+loop-again c = (omega arith, c.loop-i.invariant.1, run_step c.loop-i.invariant.2 (list_turn c.args.bytes.now c.loop-i.i (omega arith)) refl refl)
 
-same_length : tie.Need-same-length invariant-loop decreases-loop
-same_length c = c.before.loop.invariant.2.long
+same_length : tie.Need-shape_of-out invariant-loop decreases-loop
+same_length c = c.loop-i.invariant.2.long
 
 returns : tie.Need-returns invariant-loop decreases-loop
-returns c = run_end c.before.loop.invariant.2 (list_end c.before.before.args.bytes.now c.before.loop.i (omega arith))
+returns c = run_end c.loop-i.invariant.2 (list_end c.args.bytes.now c.loop-i.i (omega arith))
 
-pub write-bytes-spec : {M : Type 1} → statement M
-write-bytes-spec =
+pub write_bytes_spec : {M : Type 1} → statement M
+write_bytes_spec =
     tie.close
     (tie.spec
     invariant-loop

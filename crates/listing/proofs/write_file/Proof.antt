@@ -7,92 +7,87 @@ use Rattle.listing.proofs.write_file.Statement.{statement}
 use Rattle.listing.proofs.write_file.Tie as tie
 
 -- the start, before the file is read
-abbrev start : tie.After-read-map → tie.Start
+abbrev start : tie.After-read_map → tie.Start
 start q = q.before.before.before.before.before.before.before.before.before
 
-read-map-requires : tie.Need-read-map-requires
+read-map-requires : tie.Need-read_map-requires
 read-map-requires c κs = search rules
 
-enum-known-head : tie.Need-enum-known-head
+enum-known-head : tie.Need-enum_known-head
 enum-known-head c = search rules
 
-write-map-requires : tie.Need-write-map-requires
+write-map-requires : tie.Need-write_map-requires
 write-map-requires c κs =
-    let q = c.before.before.before.before.before.before.before.before.before.before.before in
-    let s = start q in
+    let s = start c.before.before.before.before.before.before.before.before in
     let a = s.args in
-    let p = q.read_map.ensures in
-    let h = c.before.before.before.before.before.before.before.head.given.1 in
-    let l = s.pre.2 in (
-      s.pre.1,
+    let p = c.read_map.ensures in
+    let h = c.in-File.is in
+    let l = s.requires.2 in (
+      s.requires.1,
       record {
-        grid_long = q.read_map.auto.1.0 ∙ l.grid_long;
+        grid_long = c.read_map.auto.grid ∙ l.grid_long;
         directions_long = l.directions_long;
         places_blank = l.places_blank;
         across_blank = l.across_blank;
         down_blank = l.down_blank;
       },
-      rw (file_read a.planner a.s.now q.read_map.result s.pre.0 p.0 p.1 h) at s.pre.3,
+      rw (file_read a.planner a.s.now c.read_map.result s.requires.0 p.0 p.1 h) at s.requires.3,
     )
 
-enum-known-r : tie.Need-enum-known-r
+enum-known-r : tie.Need-enum_known-r
 enum-known-r c = search rules
 
-write-refusal-requires : tie.Need-write-refusal-requires
+write-refusal-requires : tie.Need-write_refusal-requires
 write-refusal-requires c κs =
-    let q = c.before.before.before.before.before.before in
-    let s = start q in
+    let s = start c.before.before.before.before in
     let a = s.args in
-    let p = q.read_map.ensures in
-    let h = c.before.before.r.given.1 in
-    rw (file_refused a.planner a.s.now q.read_map.result s.pre.0 p.0 p.1 h) at s.pre.3
+    let p = c.read_map.ensures in
+    let h = c.in-Refused.is in
+    rw (file_refused a.planner a.s.now c.read_map.result s.requires.0 p.0 p.1 h) at s.requires.3
 
-same_length : tie.Need-same-length
+same_length : tie.Need-shape_of-out-in-File
 same_length c = search rules
 
-same-length-2 : tie.Need-same-length-2
+same-length-2 : tie.Need-shape_of-grid-in-File
 same-length-2 c = search rules
 
-same-length-3 : tie.Need-same-length-3
+same-length-3 : tie.Need-shape_of-directions
 same-length-3 c = search rules
 
-same-length-4 : tie.Need-same-length-4
+same-length-4 : tie.Need-shape_of-places
 same-length-4 c = search rules
 
-same-length-5 : tie.Need-same-length-5
+same-length-5 : tie.Need-shape_of-across
 same-length-5 c = search rules
 
-same-length-6 : tie.Need-same-length-6
+same-length-6 : tie.Need-shape_of-down
 same-length-6 c = search rules
 
-returns : tie.Need-returns
+returns : tie.Need-returns-in-File
 returns c =
-    let w = c.before.before.before.before.before.before.before.before.before.before in
-    let q = w.before.before.before.before.before.before.before.before.before.before.before.before in
-    let s = start q in
+    let s = start c.before.before.before.before.before.before.before.before.before.before.before.before.before.before.before.before.before.before.before in
     let a = s.args in
-    let p = q.read_map.ensures in
-    let h = w.before.before.before.before.before.before.before.before.head.given.1 in
-    rw (file_read a.planner a.s.now q.read_map.result s.pre.0 p.0 p.1 h) w.write_map.ensures
+    let p = c.read_map.ensures in
+    let h = c.in-File.is in
+    rw (file_read a.planner a.s.now c.read_map.result s.requires.0 p.0 p.1 h) c.write_map.ensures
 
-same-length-7 : tie.Need-same-length-7
+same-length-7 : tie.Need-shape_of-out-in-Refused
 same-length-7 c = search rules
 
-same-length-8 : tie.Need-same-length-8
+same-length-8 : tie.Need-shape_of-grid-in-Refused
 same-length-8 c = search rules
 
-returns-2 : tie.Need-returns-2
+returns-2 : tie.Need-returns-in-Refused
 returns-2 c =
-    let q = c.before.before.before.before.before.before.before.before.before in
-    let s = start q in
+    let s = start c.before.before.before.before.before.before.before in
     let a = s.args in
-    let p = q.read_map.ensures in
-    let h = c.before.before.before.before.before.r.given.1 in
-    rw (file_refused a.planner a.s.now q.read_map.result s.pre.0 p.0 p.1 h)
-    c.before.before.write-refusal.ensures
+    let p = c.read_map.ensures in
+    let h = c.in-Refused.is in
+    rw (file_refused a.planner a.s.now c.read_map.result s.requires.0 p.0 p.1 h)
+    c.write_refusal.ensures
 
-pub write-file-spec : {M : Type 1} → statement M
-write-file-spec =
+pub write_file_spec : {M : Type 1} → statement M
+write_file_spec =
     tie.close
     (tie.spec
     read-map-requires

@@ -19,25 +19,25 @@ text s = let a = s.args in listing a.planner a.s.now
 fits : (s : tie.Start) → length (text s) ≤ 32768
 fits s = let a = s.args in listing_fits a.planner a.s.now
 
-slice-aggregate-write-file : tie.Need-slice-aggregate-write-file
+slice-aggregate-write-file : tie.Need-slice_bounds-write_file-end
 slice-aggregate-write-file c = search rules
 
-slice-aggregate-write-file-2 : tie.Need-slice-aggregate-write-file-2
+slice-aggregate-write-file-2 : tie.Need-slice_bounds-write_file-end-2
 slice-aggregate-write-file-2 c = search rules
 
-slice-aggregate-write-file-3 : tie.Need-slice-aggregate-write-file-3
+slice-aggregate-write-file-3 : tie.Need-slice_bounds-write_file-end-3
 slice-aggregate-write-file-3 c = search rules
 
-slice-aggregate-write-file-4 : tie.Need-slice-aggregate-write-file-4
+slice-aggregate-write-file-4 : tie.Need-slice_bounds-write_file-end-4
 slice-aggregate-write-file-4 c = search rules
 
-slice-aggregate-write-file-5 : tie.Need-slice-aggregate-write-file-5
+slice-aggregate-write-file-5 : tie.Need-slice_bounds-write_file-end-5
 slice-aggregate-write-file-5 c = search rules
 
-write-file-requires : tie.Need-write-file-requires
+write-file-requires : tie.Need-write_file-requires
 unfolding span
 write-file-requires c κs =
-    let s = c.before.before.before.before.before.before.before.before in (
+    (
       refl,
       refl,
       record {
@@ -47,21 +47,19 @@ write-file-requires c κs =
         across_blank = refl;
         down_blank = refl;
       },
-      omega (arith, fits s, s.requires),
+      omega (arith, fits c.before.before.before.before.before.before.before.before, c.requires),
     )
 
-same_length : tie.Need-same-length
+same_length : tie.Need-shape_of-out
 same_length c = search rules
 
 returns : tie.Need-returns
 returns c =
-    let w = c.before.before.before.before.before.before.before in
-    let s = w.before.before.before.before.before.before.before.before.before in
-    let e = w.write_file.ensures in
-    at_front s.args.out.now (text s) (omega (arith, fits s, s.requires)) e
+    let e = c.write_file.ensures in
+    at_front c.args.out.now (text c.before.before.before.before.before.before.before.before.before.before.before.before.before.before.before.before) (omega (arith, fits c.before.before.before.before.before.before.before.before.before.before.before.before.before.before.before.before, c.requires)) e
 
-pub write-listing-spec : {M : Type 1} → statement M
-write-listing-spec =
+pub write_listing_spec : {M : Type 1} → statement M
+write_listing_spec =
     tie.close
     (tie.spec
     slice-aggregate-write-file

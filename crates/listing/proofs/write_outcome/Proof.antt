@@ -8,95 +8,78 @@ use borrow.Author.Rules.{rules}
 use Rattle.listing.proofs.write_outcome.Statement.{statement}
 use Rattle.listing.proofs.write_outcome.Tie as tie
 
-enum-known-o : tie.Need-enum-known-o
+enum-known-o : tie.Need-enum_known-o
 enum-known-o c = search rules
 
-slice-aggregate-write-count : tie.Need-slice-aggregate-write-count
-slice-aggregate-write-count c = search rules
+write-count-requires : tie.Need-write_count-second-requires
+write-count-requires c κs = let a = c.args in
+    let r = run_start a.out.now a.at (outcome_lines a.n a.m a.grid.now a.directions.now a.o) c.requires.1 in
+    run_room r (outcome_repaired a.n a.m a.grid.now a.directions.now c.in-Repaired.is)
 
-write-count-requires : tie.Need-write-count-requires
-write-count-requires c κs = let s = c.before.before.before.before.before.before.before.before.before.before.before in
-    let a = s.args in
-    let r = run_start a.out.now a.at (outcome_lines a.n a.m a.grid.now a.directions.now a.o) s.requires.1 in
-    run_room r (outcome_repaired a.n a.m a.grid.now a.directions.now c.before.before.before.o.given.1)
+write-repair-requires : tie.Need-write_repair-requires
+write-repair-requires c κs = let a = c.args in
+    let w = c.write_count-second.ensures in
+    let r = run_start a.out.now a.at (outcome_lines a.n a.m a.grid.now a.directions.now a.o) c.requires.1 in
+    (c.requires.0, run_room (run_step r (outcome_repaired a.n a.m a.grid.now a.directions.now c.in-Repaired.is) w.0 w.1) (splits_all _))
 
-write-repair-requires : tie.Need-write-repair-requires
-write-repair-requires c κs = let s = c.before.before.before.before.before.before.before.before.before.before.before.before.before.before.before.before.before.before in
-    let a = s.args in
-    let w = c.before.before.before.before.before.before.write-count.ensures in
-    let r = run_start a.out.now a.at (outcome_lines a.n a.m a.grid.now a.directions.now a.o) s.requires.1 in
-    (s.requires.0, run_room (run_step r (outcome_repaired a.n a.m a.grid.now a.directions.now c.before.before.before.before.before.before.before.before.before.before.o.given.1) w.0 w.1) (splits_all _))
-
-enum-known-o-2 : tie.Need-enum-known-o-2
+enum-known-o-2 : tie.Need-enum_known-o-in-Beyond-1
 enum-known-o-2 c = search rules
 
-slice-aggregate-write-count-2 : tie.Need-slice-aggregate-write-count-2
-slice-aggregate-write-count-2 c = search rules
+write-count-requires-2 : tie.Need-write_count-requires
+write-count-requires-2 c κs = let a = c.args in
+    rw (outcome_beyond a.n a.m a.grid.now a.directions.now c.in-Beyond.is) at c.requires.1
 
-write-count-requires-2 : tie.Need-write-count-requires-2
-write-count-requires-2 c κs = let s = c.before.before.before.before.before.before.before.before.before.before.before in
-    let a = s.args in
-    rw (outcome_beyond a.n a.m a.grid.now a.directions.now c.before.before.before.o2.given.1) at s.requires.1
-
-enum-known-o-3 : tie.Need-enum-known-o-3
+enum-known-o-3 : tie.Need-enum_known-o-in-Spent-1
 enum-known-o-3 c = search rules
 
-slice-aggregate-write-count-3 : tie.Need-slice-aggregate-write-count-3
-slice-aggregate-write-count-3 c = search rules
+write-count-requires-3 : tie.Need-write_count-requires-in-Spent
+write-count-requires-3 c κs = let a = c.args in
+    rw (outcome_spent a.n a.m a.grid.now a.directions.now c.in-Spent.is) at c.requires.1
 
-write-count-requires-3 : tie.Need-write-count-requires-3
-write-count-requires-3 c κs = let s = c.before.before.before.before.before.before.before.before.before.before.before in
-    let a = s.args in
-    rw (outcome_spent a.n a.m a.grid.now a.directions.now c.before.before.before.o3.given.1) at s.requires.1
-
-same_length : tie.Need-same-length
+same_length : tie.Need-shape_of-out-in-Repaired
 same_length c = search rules
 
-same-length-2 : tie.Need-same-length-2
+same-length-2 : tie.Need-shape_of-places
 same-length-2 c = search rules
 
-same-length-3 : tie.Need-same-length-3
+same-length-3 : tie.Need-shape_of-across
 same-length-3 c = search rules
 
-same-length-4 : tie.Need-same-length-4
+same-length-4 : tie.Need-shape_of-down
 same-length-4 c = search rules
 
-returns : tie.Need-returns
-returns c = let s = c.before.before.before.before.before.before.before.before.before.before.before.before.before.before.before.before.before.before.before.before.before.before.before.before.before.before.before in
-    let a = s.args in
-    let w = c.before.before.before.before.before.before.before.before.before.before.before.before.before.before.before.write-count.ensures in
-    let x = c.before.before.before.before.before.before.before.before.write-repair.ensures in
-    let r = run_start a.out.now a.at (outcome_lines a.n a.m a.grid.now a.directions.now a.o) s.requires.1 in
-    let t = run_step r (outcome_repaired a.n a.m a.grid.now a.directions.now c.before.before.before.before.before.before.before.before.before.before.before.before.before.before.before.before.before.before.before.o.given.1) w.0 w.1 in
+returns : tie.Need-returns-in-Repaired
+returns c = let a = c.args in
+    let w = c.write_count-second.ensures in
+    let x = c.write_repair.ensures in
+    let r = run_start a.out.now a.at (outcome_lines a.n a.m a.grid.now a.directions.now a.o) c.requires.1 in
+    let t = run_step r (outcome_repaired a.n a.m a.grid.now a.directions.now c.in-Repaired.is) w.0 w.1 in
     run_end (run_step t (splits_all _) x.0 x.1) refl
 
-same-length-5 : tie.Need-same-length-5
+same-length-5 : tie.Need-shape_of-out-in-Beyond
 same-length-5 c = search rules
 
-returns-2 : tie.Need-returns-2
-returns-2 c = let a = c.before.before.before.before.before.before.before.before.before.before.before.before.before.before.args in
-    rw (outcome_beyond a.n a.m a.grid.now a.directions.now c.before.before.before.before.before.before.o2.given.1) c.before.before.write-count2.ensures
+returns-2 : tie.Need-returns-in-Beyond
+returns-2 c = let a = c.args in
+    rw (outcome_beyond a.n a.m a.grid.now a.directions.now c.in-Beyond.is) c.write_count.ensures
 
-same-length-6 : tie.Need-same-length-6
+same-length-6 : tie.Need-shape_of-out-in-Spent
 same-length-6 c = search rules
 
-returns-3 : tie.Need-returns-3
-returns-3 c = let a = c.before.before.before.before.before.before.before.before.before.before.before.before.before.before.args in
-    rw (outcome_spent a.n a.m a.grid.now a.directions.now c.before.before.before.before.before.before.o3.given.1) c.before.before.write-count3.ensures
+returns-3 : tie.Need-returns-in-Spent
+returns-3 c = let a = c.args in
+    rw (outcome_spent a.n a.m a.grid.now a.directions.now c.in-Spent.is) c.write_count-in-Spent.ensures
 
-pub write-outcome-spec : {M : Type 1} → statement M
-write-outcome-spec =
+pub write_outcome_spec : {M : Type 1} → statement M
+write_outcome_spec =
     tie.close
     (tie.spec
     enum-known-o
-    slice-aggregate-write-count
     write-count-requires
     write-repair-requires
     enum-known-o-2
-    slice-aggregate-write-count-2
     write-count-requires-2
     enum-known-o-3
-    slice-aggregate-write-count-3
     write-count-requires-3
     same_length
     same-length-2

@@ -32,56 +32,44 @@ first c = let a = c.args in plan_first a.n a.m a.grid.now a.directions.now a.pla
 start : (c : tie.Start) → Run c.args.out.now c.args.at (lines c) c.args.out.now c.args.at (lines c)
 start c = run_start c.args.out.now c.args.at (lines c) c.requires.1
 
-write-paths-requires : tie.Need-write-paths-requires
-write-paths-requires c κs = let s = c.before.before.before.before.before.before.before in (s.requires.0.grid_long, s.requires.0.directions_long, run_room (start s) (first s))
+write-paths-requires : tie.Need-write_paths-second-requires
+write-paths-requires c κs = (c.requires.0.grid_long, c.requires.0.directions_long, run_room (start c.before.before.before.before.before.before.before) (first c.before.before.before.before.before.before.before))
 
-write-cells-requires : tie.Need-write-cells-requires
-write-cells-requires c κs = let s = c.before.before.before.before.before.before.before.before.before.before.before in
-    let w = c.before.before.before.write-paths.ensures in
-    (s.requires.0.places_long, run_room (run_step (start s) (first s) w.0 w.1) (splits (cells s) (across s ++ down s)))
+write-cells-requires : tie.Need-write_cells-third-requires
+write-cells-requires c κs = let w = c.write_paths-second.ensures in
+    (c.requires.0.places_long, run_room (run_step (start c.before.before.before.before.before.before.before.before.before.before.before) (first c.before.before.before.before.before.before.before.before.before.before.before) w.0 w.1) (splits (cells c.before.before.before.before.before.before.before.before.before.before.before) (across c.before.before.before.before.before.before.before.before.before.before.before ++ down c.before.before.before.before.before.before.before.before.before.before.before)))
 
-slice-aggregate-write-switches : tie.Need-slice-aggregate-write-switches
-slice-aggregate-write-switches c = search rules
+write-switches-requires : tie.Need-write_switches-fourth-requires
+write-switches-requires c κs = let w = c.write_paths-second.ensures in
+    let x = c.write_cells-third.ensures in
+    let t = run_step (run_step (start c.before.before.before.before.before.before.before.before.before.before.before.before.before.before.before.before.before) (first c.before.before.before.before.before.before.before.before.before.before.before.before.before.before.before.before.before) w.0 w.1) (splits (cells c.before.before.before.before.before.before.before.before.before.before.before.before.before.before.before.before.before) (across c.before.before.before.before.before.before.before.before.before.before.before.before.before.before.before.before.before ++ down c.before.before.before.before.before.before.before.before.before.before.before.before.before.before.before.before.before)) x.0 x.1 in
+    (c.requires.0.across_long, run_room t (splits (across c.before.before.before.before.before.before.before.before.before.before.before.before.before.before.before.before.before) (down c.before.before.before.before.before.before.before.before.before.before.before.before.before.before.before.before.before)))
 
-write-switches-requires : tie.Need-write-switches-requires
-write-switches-requires c κs = let s = c.before.before.before.before.before.before.before.before.before.before.before.before.before.before.before.before in
-    let w = c.before.before.before.before.before.before.before.before.write-paths.ensures in
-    let x = c.before.before.before.before.write-cells.ensures in
-    let t = run_step (run_step (start s) (first s) w.0 w.1) (splits (cells s) (across s ++ down s)) x.0 x.1 in
-    (s.requires.0.across_long, run_room t (splits (across s) (down s)))
+write-switches-requires-2 : tie.Need-write_switches-requires
+write-switches-requires-2 c κs = let w = c.write_paths-second.ensures in
+    let x = c.write_cells-third.ensures in
+    let y = c.write_switches-fourth.ensures in
+    let t = run_step (run_step (start c.before.before.before.before.before.before.before.before.before.before.before.before.before.before.before.before.before.before.before.before.before.before.before) (first c.before.before.before.before.before.before.before.before.before.before.before.before.before.before.before.before.before.before.before.before.before.before.before) w.0 w.1) (splits (cells c.before.before.before.before.before.before.before.before.before.before.before.before.before.before.before.before.before.before.before.before.before.before.before) (across c.before.before.before.before.before.before.before.before.before.before.before.before.before.before.before.before.before.before.before.before.before.before.before ++ down c.before.before.before.before.before.before.before.before.before.before.before.before.before.before.before.before.before.before.before.before.before.before.before)) x.0 x.1 in
+    (c.requires.0.down_long, run_room (run_step t (splits (across c.before.before.before.before.before.before.before.before.before.before.before.before.before.before.before.before.before.before.before.before.before.before.before) (down c.before.before.before.before.before.before.before.before.before.before.before.before.before.before.before.before.before.before.before.before.before.before.before)) y.0 y.1) (splits_all (down c.before.before.before.before.before.before.before.before.before.before.before.before.before.before.before.before.before.before.before.before.before.before.before)))
 
-slice-aggregate-write-switches-2 : tie.Need-slice-aggregate-write-switches-2
-slice-aggregate-write-switches-2 c = search rules
-
-write-switches-requires-2 : tie.Need-write-switches-requires-2
-write-switches-requires-2 c κs = let s = c.before.before.before.before.before.before.before.before.before.before.before.before.before.before.before.before.before.before.before.before.before in
-    let w = c.before.before.before.before.before.before.before.before.before.before.before.before.before.write-paths.ensures in
-    let x = c.before.before.before.before.before.before.before.before.before.write-cells.ensures in
-    let y = c.before.before.before.before.write-switches.ensures in
-    let t = run_step (run_step (start s) (first s) w.0 w.1) (splits (cells s) (across s ++ down s)) x.0 x.1 in
-    (s.requires.0.down_long, run_room (run_step t (splits (across s) (down s)) y.0 y.1) (splits_all (down s)))
-
-same_length : tie.Need-same-length
+same_length : tie.Need-shape_of-out
 same_length c = search rules
 
 returns : tie.Need-returns
-returns c = let s = c.before.before.before.before.before.before.before.before.before.before.before.before.before.before.before.before.before.before.before.before.before.before.before.before in
-    let w = c.before.before.before.before.before.before.before.before.before.before.before.before.before.before.before.before.write-paths.ensures in
-    let x = c.before.before.before.before.before.before.before.before.before.before.before.before.write-cells.ensures in
-    let y = c.before.before.before.before.before.before.before.write-switches.ensures in
-    let z = c.before.before.write-switches2.ensures in
-    let t = run_step (run_step (start s) (first s) w.0 w.1) (splits (cells s) (across s ++ down s)) x.0 x.1 in
-    run_end (run_step (run_step t (splits (across s) (down s)) y.0 y.1) (splits_all (down s)) z.0 z.1) refl
+returns c = let w = c.write_paths-second.ensures in
+    let x = c.write_cells-third.ensures in
+    let y = c.write_switches-fourth.ensures in
+    let z = c.write_switches.ensures in
+    let t = run_step (run_step (start c.before.before.before.before.before.before.before.before.before.before.before.before.before.before.before.before.before.before.before.before.before.before.before.before.before.before) (first c.before.before.before.before.before.before.before.before.before.before.before.before.before.before.before.before.before.before.before.before.before.before.before.before.before.before) w.0 w.1) (splits (cells c.before.before.before.before.before.before.before.before.before.before.before.before.before.before.before.before.before.before.before.before.before.before.before.before.before.before) (across c.before.before.before.before.before.before.before.before.before.before.before.before.before.before.before.before.before.before.before.before.before.before.before.before.before.before ++ down c.before.before.before.before.before.before.before.before.before.before.before.before.before.before.before.before.before.before.before.before.before.before.before.before.before.before)) x.0 x.1 in
+    run_end (run_step (run_step t (splits (across c.before.before.before.before.before.before.before.before.before.before.before.before.before.before.before.before.before.before.before.before.before.before.before.before.before.before) (down c.before.before.before.before.before.before.before.before.before.before.before.before.before.before.before.before.before.before.before.before.before.before.before.before.before.before)) y.0 y.1) (splits_all (down c.before.before.before.before.before.before.before.before.before.before.before.before.before.before.before.before.before.before.before.before.before.before.before.before.before.before)) z.0 z.1) refl
 
-pub write-plan-spec : {M : Type 1} → statement M
-write-plan-spec =
+pub write_plan_spec : {M : Type 1} → statement M
+write_plan_spec =
     tie.close
     (tie.spec
     write-paths-requires
     write-cells-requires
-    slice-aggregate-write-switches
     write-switches-requires
-    slice-aggregate-write-switches-2
     write-switches-requires-2
     same_length
     returns)

@@ -6,7 +6,7 @@ use Rattle.runs.proofs.Laying.{directed, places_long, switches_long, laid, finis
 use Rattle.runs.proofs.complete.Statement.{statement}
 use Rattle.runs.proofs.complete.Tie as tie
 
-abbrev start : tie.After-place-arg → tie.Start
+abbrev start : tie.After-place-arg-1 → tie.Start
 start c = c.before.before.before.before.before.before
 
 place-requires : tie.Need-place-requires
@@ -18,31 +18,27 @@ route-requires c κs =
     let l = switches_long a in
     (directed a, omega (arith, l), omega (arith, l))
 
-count-all-requires : tie.Need-count-all-requires
+count-all-requires : tie.Need-count_all-requires
 count-all-requires c κs =
-    let r = c.before.before.before.before.before.before.before in
-    let p = r.before.before.before.before.before in
-    let set = r.route.ensures in
-    laid (start p.before).requires set.0 set.1 p.place.ensures
+    let set = c.route.ensures in
+    laid (start c.before.before.before.before.before.before.before.before.before.before).requires set.0 set.1 c.place.ensures
 
-same_length : tie.Need-same-length
+same_length : tie.Need-shape_of-places
 same_length c = search rules
 
-same-length-2 : tie.Need-same-length-2
+same-length-2 : tie.Need-shape_of-across
 same-length-2 c = search rules
 
-same-length-3 : tie.Need-same-length-3
+same-length-3 : tie.Need-shape_of-down
 same-length-3 c = search rules
 
 returns : tie.Need-returns
 returns c =
-    let r = c.before.before.before.before.before.before.before.before in
-    let p = r.before.before.before.before.before in
-    let set = r.route.ensures in
-    finished (start p.before).requires set.0 set.1 p.place.ensures c.count-all.ensures
+    let set = c.route.ensures in
+    finished (start c.before.before.before.before.before.before.before.before.before.before.before).requires set.0 set.1 c.place.ensures c.count_all.ensures
 
-pub complete-spec : {M : Type 1} → statement M
-complete-spec =
+pub complete_spec : {M : Type 1} → statement M
+complete_spec =
     tie.close
     (tie.spec
     place-requires

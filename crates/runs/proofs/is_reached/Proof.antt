@@ -12,57 +12,52 @@ use Rattle.runs.proofs.Finding.{and_stops, and_passes, held_long, neighbour_low,
 use Rattle.runs.proofs.is_reached.Statement.{statement}
 use Rattle.runs.proofs.is_reached.Tie as tie
 
-abbrev start : tie.Else1 → tie.Start
+abbrev start : tie.Else-not-has_neighbour → tie.Start
 start c = c.before.before.before.before.before.before.before
 
-has : (c : tie.Else1) → let a = (start c).args in has_neighbour a.n a.m a.side a.p ≡ true
-has c = sym c.before.has_neighbour.ensures ∙ not-false _ c.if1.false
+has : (c : tie.Else-not-has_neighbour) → let a = (start c).args in has_neighbour a.n a.m a.side a.p ≡ true
+has c = sym c.has_neighbour.ensures ∙ not-false _ c.if-not-has_neighbour.false-raw
 
-has-neighbour-requires : tie.Need-has-neighbour-requires
+has-neighbour-requires : tie.Need-has_neighbour-requires
 has-neighbour-requires c κs = search rules
 
-returns : tie.Need-returns
-returns c = and_stops c.before.has_neighbour.ensures _ c.if1.true
+returns : tie.Need-returns-then-not-has_neighbour
+returns c = and_stops c.has_neighbour.ensures _ c.if-not-has_neighbour.true-raw
 
-held-at-requires : tie.Need-held-at-requires
-held-at-requires c κs = let s = start c in (held_long s.pre.0, s.pre.2)
+held-at-requires : tie.Need-held_at-from-requires
+held-at-requires c κs = let s = start c in (held_long s.requires.0, s.requires.2)
 
 neighbour-requires : tie.Need-neighbour-requires
 neighbour-requires c κs = search rules
 
-held-at-requires-2 : tie.Need-held-at-requires-2
+held-at-requires-2 : tie.Need-held_at-to-requires
 held-at-requires-2 c κs =
-    let e = c.before.before in
-    let s = start e in
-    let l = neighbour_low s.pre.0 s.args.side s.args.p s.pre.1 (has e) in
-    (held_long s.pre.0, omega (arith, c.neighbour.ensures, l))
+    let s = start c.before.before in
+    let l = neighbour_low s.requires.0 s.args.side s.args.p s.requires.1 (has c.before.before) in
+    (held_long s.requires.0, omega (arith, c.neighbour.ensures, l))
 
-cast-follow : tie.Need-overflow-cast-follow
+cast-follow : tie.Need-overflow_cast-side
 cast-follow c = search rules
 
-follow-requires : tie.Need-follow-requires
+follow-requires : tie.Need-follow-f-requires
 follow-requires c κs =
-    let h = c.before.before in
-    let s = start h.before in
-    let l = held_low s.pre.0 s.args.side s.args.p s.pre.1 (has h.before) in
-    (s.pre.0.ready, omega (arith, h.held_at.ensures, l), omega (arith, s.pre.1))
+    let s = start c.before.before.before in
+    let l = held_low s.requires.0 s.args.side s.args.p s.requires.1 (has c.before.before.before) in
+    (s.requires.0.ready, omega (arith, c.held_at-from.ensures, l), omega (arith, s.requires.1))
 
 arrives-requires : tie.Need-arrives-requires
 arrives-requires c κs = search rules
 
-returns-2 : tie.Need-returns-2
+returns-2 : tie.Need-returns
 returns-2 c =
-    let t = c.before.before in
-    let h = t.before.before in
-    let e = h.before in
-    let s = start e in
-    let to = ap (λ (i : ℕ). get_or s.args.places.now i 0) t.before.neighbour.ensures in
-    and_passes e.before.has_neighbour.ensures _ e.if1.false
-    (arrives_held s.pre.0 s.args.side s.args.p s.pre.1 (has e) h.held_at.ensures (t.held-at2.ensures ∙ to)
-    c.before.follow.ensures c.arrives.ensures)
+    let s = start c.before.before.before.before.before in
+    let to = ap (λ (i : ℕ). get_or s.args.places.now i 0) c.neighbour.ensures in
+    and_passes c.has_neighbour.ensures _ c.if-not-has_neighbour.false-raw
+    (arrives_held s.requires.0 s.args.side s.args.p s.requires.1 (has c.before.before.before.before.before) c.held_at-from.ensures (c.held_at-to.ensures ∙ to)
+    c.follow-f.ensures c.arrives.ensures)
 
-pub is-reached-spec : {M : Type 1} → statement M
-is-reached-spec =
+pub is_reached_spec : {M : Type 1} → statement M
+is_reached_spec =
     tie.close
     (tie.spec
     has-neighbour-requires

@@ -18,95 +18,81 @@ use Rattle.runs.proofs.run_by.Statement.{statement}
 use Rattle.runs.proofs.run_by.Tie as tie
 
 -- the arguments of the run
-abbrev args : tie.After-check-map → Given
+abbrev args : tie.After-check_map-v → Given
 args c =
-    let a = c.before.before.before.before.before.before.args in
+    let a = c.args in
     given a.planner a.n a.m a.grid.now a.limit
     a.directions.now a.places.now a.across.now a.down.now
 
-u32 : (c : tie.After-check-map) → (args c).limit < 4294967296
-u32 c = omega (arith, c.before.before.before.before.before.before.ranges.limit)
+u32 : (c : tie.After-check_map-v) → (args c).limit < 4294967296
+u32 c = omega (arith, c.ranges.limit)
 
 -- what the tests answer
-tested : (c : tie.After-check-map) → c.check-map.result ≡ run_test (args c)
+tested : (c : tie.After-check_map-v) → c.check_map-v.result ≡ run_test (args c)
 tested c =
     let g = args c in
-    c.check-map.ensures
+    c.check_map-v.ensures
     ∙ ap
     (λ (r : Bool).
     map_tests g.n g.m (long g.grid && (long g.directions && (long g.places && (long g.across && r))))
     g.grid)
     (sym (and_one (long g.down)))
 
-check-map-requires : tie.Need-check-map-requires
-check-map-requires c κs = λ h. eqb-true _ _ (and_true (long c.before.before.before.before.before.args.grid.now) _ h).0
+check-map-requires : tie.Need-check_map-v-requires
+check-map-requires c κs = λ h. eqb-true _ _ (and_true (long c.args.grid.now) _ h).0
 
-enum-known-v : tie.Need-enum-known-v
+enum-known-v : tie.Need-enum_known-v
 enum-known-v c = search rules
 
-returns : tie.Need-returns
-returns c = let q = c.before.before.before in ran_refused (args q) (u32 q) (tested q) c.before.v.given.1
+returns : tie.Need-returns-in-Refused
+returns c = ran_refused (args c.before) (u32 c.before) (tested c.before) c.in-Refused.is
 
-enum_told : tie.Need-enum-told
+enum_told : tie.Need-enum_told-1
 enum_told c = search rules
 
-find-by-requires : tie.Need-find-by-requires
+find-by-requires : tie.Need-find_by-answer-requires
 find-by-requires c κs =
-    let t = c.before in
-    let q = t.before.before in
-    let g = args q in
-    let m = map_accepted g.n g.m _ g.grid (sym q.check-map.ensures ∙ t.enum_told.given.1) in
+    let g = args c.before.before in
+    let m = map_accepted g.n g.m _ g.grid (sym c.check_map-v.ensures ∙ c.in_default.is) in
     let l = front_long g.grid g.directions _ m.lengths in
     (m.sizes.rows_high, m.sizes.columns_high, l.0, l.1)
 
-is-repaired-requires : tie.Need-is-repaired-requires
+is-repaired-requires : tie.Need-is_repaired-requires
 is-repaired-requires c κs = search rules
 
-same_length : tie.Need-same-length
+same_length : tie.Need-shape_of-directions-then-not-is_repaired
 same_length c = search rules
 
-returns-2 : tie.Need-returns-2
+returns-2 : tie.Need-returns-then-not-is_repaired
 returns-2 c =
-    let f = c.before.before.before.before in
-    let t = f.before.before in
-    let q = t.before.before in
-    ran_planned (args q) (u32 q) (tested q) t.enum_told.given.1 f.find-by.ensures.0 f.find-by.ensures.1
-    (sym c.before.is_repaired.ensures ∙ not-true _ c.if1.true)
+    ran_planned (args c.before.before.before.before.before.before.before) (u32 c.before.before.before.before.before.before.before) (tested c.before.before.before.before.before.before.before) c.in_default.is c.find_by-answer.ensures.0 c.find_by-answer.ensures.1
+    (sym c.is_repaired.ensures ∙ not-true _ c.if-not-is_repaired.true-raw)
 
-complete-requires : tie.Need-complete-requires
+complete-requires : tie.Need-complete-links-requires
 complete-requires c κs =
-    let i = c.before.before.before.before in
-    let f = i.before.before.before.before in
-    let t = f.before.before in
-    let q = t.before.before in
-    accepts (args q) (u32 q) (tested q) t.enum_told.given.1 f.find-by.ensures.0 f.find-by.ensures.1
-    (sym i.before.is_repaired.ensures ∙ not-false _ i.if1.false)
+    accepts (args c.before.before.before.before.before.before.before.before.before.before) (u32 c.before.before.before.before.before.before.before.before.before.before) (tested c.before.before.before.before.before.before.before.before.before.before) c.in_default.is c.find_by-answer.ensures.0 c.find_by-answer.ensures.1
+    (sym c.is_repaired.ensures ∙ not-false _ c.if-not-is_repaired.false-raw)
 
-same-length-2 : tie.Need-same-length-2
+same-length-2 : tie.Need-shape_of-directions
 same-length-2 c = search rules
 
-same-length-3 : tie.Need-same-length-3
+same-length-3 : tie.Need-shape_of-places
 same-length-3 c = search rules
 
-same-length-4 : tie.Need-same-length-4
+same-length-4 : tie.Need-shape_of-across
 same-length-4 c = search rules
 
-same-length-5 : tie.Need-same-length-5
+same-length-5 : tie.Need-shape_of-down
 same-length-5 c = search rules
 
-returns-3 : tie.Need-returns-3
+returns-3 : tie.Need-returns
 returns-3 c =
-    let k = c.before.before.before.before.before.before in
-    let i = k.before.before.before.before.before in
-    let f = i.before.before.before.before in
-    let t = f.before.before in
-    let q = t.before.before in
-    let e = k.complete.ensures in
-    ran_repaired (args q) (u32 q) (tested q) t.enum_told.given.1 f.find-by.ensures.0 f.find-by.ensures.1
-    (sym i.before.is_repaired.ensures ∙ not-false _ i.if1.false) e.0 e.1.0 e.1.1.0 e.1.1.1
+    let e = c.complete-links.ensures in
+    ran_repaired (args c.before.before.before.before.before.before.before.before.before.before.before.before.before.before.before.before.before) (u32 c.before.before.before.before.before.before.before.before.before.before.before.before.before.before.before.before.before) (tested c.before.before.before.before.before.before.before.before.before.before.before.before.before.before.before.before.before) c.in_default.is c.find_by-answer.ensures.0 c.find_by-answer.ensures.1
+    (sym c.is_repaired.ensures ∙ not-false _ c.if-not-is_repaired.false-raw) e.0 e.1.0 e.1.1.0 e.1.1.1
 
-pub run-by-spec : {M : Type 1} → statement M
-run-by-spec =
+pub run_by_spec : {M : Type 1} → statement M
+run_by_spec =
     tie.close
     (tie.spec
     check-map-requires
