@@ -10,69 +10,62 @@ use borrow.Author.Rules.{rules}
 use Rattle.record.proofs.write_file.Statement.{statement}
 use Rattle.record.proofs.write_file.Tie as tie
 
-within : (c : tie.After-known-told) → c.before.a.given.0.0 ≤ length c.before.before.before.before.before.write_plan.new.1.1.1.1.0
+within : (c : tie.In-Length) → c.in-Length.k ≤ length c.write_plan-a.new.out
 within c =
-    let q = c.before.before.before.before.before in
-    let a = c.before.before.before.before.before.before.before.before.before.args in
+    let a = c.args in
     omega (
       arith,
-      plan_within _ _ _ _ a.file.now q.write_plan.result c.before.a.given.0.0 q.write_plan.ensures.0 c.before.a.given.1,
-      q.write_plan.auto.1.1.1.1.0,
+      plan_within _ _ _ _ a.file.now c.write_plan-a.result c.in-Length.k c.write_plan-a.ensures.0 c.in-Length.is,
+      c.write_plan-a.auto.out,
     )
 
-write-plan-requires : tie.Need-write-plan-requires
+write-plan-requires : tie.Need-write_plan-a-requires
 write-plan-requires c κs = search rules
 
-enum-known-a : tie.Need-enum-known-a
+enum-known-a : tie.Need-enum_known-a
 enum-known-a c = search rules
 
-slice-reshare-prefix-write-all : tie.Need-slice-reshare-prefix-write-all
+slice-reshare-prefix-write-all : tie.Need-slice_bounds-write_all-end
 slice-reshare-prefix-write-all c = within c
 
-slice-aggregate-write-all : tie.Need-slice-aggregate-write-all
-slice-aggregate-write-all c = sym (length-take-le c.before.before.a.given.0.0 c.before.before.before.before.before.before.write_plan.new.1.1.1.1.0 (within c.before))
+slice-aggregate-write-all : tie.Need-slice_bounds-write_all-end-in-Length
+slice-aggregate-write-all c = sym (length-take-le c.in-Length.k c.write_plan-a.new.out (within c))
 
-write-all-requires : tie.Need-write-all-requires
+write-all-requires : tie.Need-write_all-requires
 write-all-requires c κs = search rules
-
-slice-aggregate-say : tie.Need-slice-aggregate-say
-slice-aggregate-say c = search rules
 
 say-requires : tie.Need-say-requires
 say-requires c κs = search rules
 
-enum-known-a-2 : tie.Need-enum-known-a-2
+enum-known-a-2 : tie.Need-enum_known-a-in-Refused-1
 enum-known-a-2 c = search rules
 
-slice-aggregate-say-count : tie.Need-slice-aggregate-say-count
-slice-aggregate-say-count c = search rules
-
-cast-say-count : tie.Need-overflow-cast-say-count
+cast-say-count : tie.Need-overflow_cast-r
 cast-say-count c = search rules
 
-say-count-requires : tie.Need-say-count-requires
+say-count-requires : tie.Need-say_count-requires
 say-count-requires c κs = search rules
 
-same_length : tie.Need-same-length
+same_length : tie.Need-shape_of-file-then-not-write_all
 same_length c = search rules
 
-returns : tie.Need-returns
+returns : tie.Need-returns-then-not-write_all
 returns c = search rules
 
-same-length-2 : tie.Need-same-length-2
+same-length-2 : tie.Need-shape_of-file-else-not-write_all
 same-length-2 c = search rules
 
-returns-2 : tie.Need-returns-2
+returns-2 : tie.Need-returns-else-not-write_all
 returns-2 c = search rules
 
-same-length-3 : tie.Need-same-length-3
+same-length-3 : tie.Need-shape_of-file-in-Refused
 same-length-3 c = search rules
 
-returns-3 : tie.Need-returns-3
+returns-3 : tie.Need-returns-in-Refused
 returns-3 c = search rules
 
-pub write-file-spec : {M : Type 1} → statement M
-write-file-spec =
+pub write_file_spec : {M : Type 1} → statement M
+write_file_spec =
     tie.close
     (tie.spec
     write-plan-requires
@@ -80,10 +73,8 @@ write-file-spec =
     slice-reshare-prefix-write-all
     slice-aggregate-write-all
     write-all-requires
-    slice-aggregate-say
     say-requires
     enum-known-a-2
-    slice-aggregate-say-count
     cast-say-count
     say-count-requires
     same_length
