@@ -8,15 +8,15 @@ use borrow.Author.Rules.{rules}
 use Rattle.capi.proofs.chantspruce_check_plan.Statement.{statement}
 use Rattle.capi.proofs.chantspruce_check_plan.Tie as tie
 
-check-plan-requires : tie.Need-check-plan-requires
+check-plan-requires : tie.Need-check_plan-requires
 check-plan-requires c κs = search rules
 
-flat-verdict-requires : tie.Need-flat-verdict-requires
+flat-verdict-requires : tie.Need-flat_verdict-requires
 flat-verdict-requires c κs = search rules
 
 returns : tie.Need-returns
-returns c = flat_kept told verdict_kept flat_verdict c.flat_verdict.ensures c.before.check_plan.ensures
+returns c = flat_kept told verdict_kept flat_verdict c.flat_verdict.ensures c.check_plan.ensures
 
-pub chantspruce-check-plan-spec : {M : Type 1} → statement M
-chantspruce-check-plan-spec =
+pub chantspruce_check_plan_spec : {M : Type 1} → statement M
+chantspruce_check_plan_spec =
     tie.close (tie.spec check-plan-requires flat-verdict-requires returns)

@@ -8,21 +8,21 @@ use borrow.Author.Rules.{rules}
 use Rattle.capi.proofs.chantspruce_read_plan.Statement.{statement}
 use Rattle.capi.proofs.chantspruce_read_plan.Tie as tie
 
-read-plan-requires : tie.Need-read-plan-requires
+read-plan-requires : tie.Need-read_plan-requires
 read-plan-requires c κs = search rules
 
-flat-plan-head-requires : tie.Need-flat-plan-head-requires
+flat-plan-head-requires : tie.Need-flat_plan_head-requires
 flat-plan-head-requires c κs = search rules
 
-same_length : tie.Need-same-length
+same_length : tie.Need-shape_of-directions
 same_length c = search rules
 
 returns : tie.Need-returns
 returns c = (
-  flat_kept told read_kept flat_plan_head c.flat_plan_head.ensures c.before.before.before.read_plan.ensures.0,
-  c.before.before.before.read_plan.ensures.1,
+  flat_kept told read_kept flat_plan_head c.flat_plan_head.ensures c.read_plan.ensures.0,
+  c.read_plan.ensures.1,
 )
 
-pub chantspruce-read-plan-spec : {M : Type 1} → statement M
-chantspruce-read-plan-spec =
+pub chantspruce_read_plan_spec : {M : Type 1} → statement M
+chantspruce_read_plan_spec =
     tie.close (tie.spec read-plan-requires flat-plan-head-requires same_length returns)

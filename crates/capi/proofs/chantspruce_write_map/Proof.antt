@@ -8,18 +8,18 @@ use borrow.Author.Rules.{rules}
 use Rattle.capi.proofs.chantspruce_write_map.Statement.{statement}
 use Rattle.capi.proofs.chantspruce_write_map.Tie as tie
 
-write-map-requires : tie.Need-write-map-requires
+write-map-requires : tie.Need-write_map-requires
 write-map-requires c κs = search rules
 
-flat-length-requires : tie.Need-flat-length-requires
+flat-length-requires : tie.Need-flat_length-requires
 flat-length-requires c κs = search rules
 
-same_length : tie.Need-same-length
+same_length : tie.Need-shape_of-out
 same_length c = search rules
 
 returns : tie.Need-returns
-returns c = (flat_kept told written_kept flat_length c.flat_length.ensures c.before.before.before.write_map.ensures.0, c.before.before.before.write_map.ensures.1)
+returns c = (flat_kept told written_kept flat_length c.flat_length.ensures c.write_map.ensures.0, c.write_map.ensures.1)
 
-pub chantspruce-write-map-spec : {M : Type 1} → statement M
-chantspruce-write-map-spec =
+pub chantspruce_write_map_spec : {M : Type 1} → statement M
+chantspruce_write_map_spec =
     tie.close (tie.spec write-map-requires flat-length-requires same_length returns)

@@ -8,18 +8,18 @@ use borrow.Author.Rules.{rules}
 use Rattle.capi.proofs.chantspruce_write_plan.Statement.{statement}
 use Rattle.capi.proofs.chantspruce_write_plan.Tie as tie
 
-write-plan-requires : tie.Need-write-plan-requires
+write-plan-requires : tie.Need-write_plan-requires
 write-plan-requires c κs = search rules
 
-flat-length-requires : tie.Need-flat-length-requires
+flat-length-requires : tie.Need-flat_length-requires
 flat-length-requires c κs = search rules
 
-same_length : tie.Need-same-length
+same_length : tie.Need-shape_of-out
 same_length c = search rules
 
 returns : tie.Need-returns
-returns c = (flat_kept told written_kept flat_length c.flat_length.ensures c.before.before.before.write_plan.ensures.0, c.before.before.before.write_plan.ensures.1)
+returns c = (flat_kept told written_kept flat_length c.flat_length.ensures c.write_plan.ensures.0, c.write_plan.ensures.1)
 
-pub chantspruce-write-plan-spec : {M : Type 1} → statement M
-chantspruce-write-plan-spec =
+pub chantspruce_write_plan_spec : {M : Type 1} → statement M
+chantspruce_write_plan_spec =
     tie.close (tie.spec write-plan-requires flat-length-requires same_length returns)

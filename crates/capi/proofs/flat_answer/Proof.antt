@@ -7,41 +7,41 @@ use borrow.Author.Rules.{rules}
 use Rattle.capi.proofs.flat_answer.Statement.{statement}
 use Rattle.capi.proofs.flat_answer.Tie as tie
 
-enum-known-a : tie.Need-enum-known-a
+enum-known-a : tie.Need-enum_known-a
 enum-known-a c = search rules
 
-flat-outcome-requires : tie.Need-flat-outcome-requires
+flat-outcome-requires : tie.Need-flat_outcome-requires
 flat-outcome-requires c κs = search rules
 
-enum-known-a-2 : tie.Need-enum-known-a-2
+enum-known-a-2 : tie.Need-enum_known-a-in-Decided-1
 enum-known-a-2 c = search rules
 
-flat-decision-requires : tie.Need-flat-decision-requires
+flat-decision-requires : tie.Need-flat_decision-requires
 flat-decision-requires c κs = search rules
 
-enum-known-a-3 : tie.Need-enum-known-a-3
+enum-known-a-3 : tie.Need-enum_known-a-in-Refused-1
 enum-known-a-3 c = search rules
 
-cast-t7 : tie.Need-overflow-cast-t7
+cast-t7 : tie.Need-overflow_cast-result
 cast-t7 c = search rules
 
-returns : tie.Need-returns
+returns : tie.Need-returns-in-Planned
 unfolding flat_answer
 returns c =
-    c.flat_outcome.ensures ∙ ap (λ (a : Answer). flat_answer a c.before.before.before.before.args.links) (sym c.before.before.a.given.1)
+    c.flat_outcome.ensures ∙ ap (λ (a : Answer). flat_answer a c.args.links) (sym c.in-Planned.is)
 
-returns-2 : tie.Need-returns-2
+returns-2 : tie.Need-returns-in-Decided
 unfolding flat_answer
 returns-2 c =
-    c.flat_decision.ensures ∙ ap (λ (a : Answer). flat_answer a c.before.before.before.before.args.links) (sym c.before.before.a2.given.1)
+    c.flat_decision.ensures ∙ ap (λ (a : Answer). flat_answer a c.args.links) (sym c.in-Decided.is)
 
-returns-3 : tie.Need-returns-3
+returns-3 : tie.Need-returns-in-Refused
 unfolding flat_answer
 returns-3 c =
-    ap (λ (a : Answer). flat_answer a c.before.before.before.before.args.links) (sym c.before.before.a3.given.1)
+    ap (λ (a : Answer). flat_answer a c.args.links) (sym c.in-Refused.is)
 
-pub flat-answer-spec : {M : Type 1} → statement M
-flat-answer-spec =
+pub flat_answer_spec : {M : Type 1} → statement M
+flat_answer_spec =
     tie.close
     (tie.spec
     enum-known-a

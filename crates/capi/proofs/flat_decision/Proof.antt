@@ -7,29 +7,29 @@ use borrow.Author.Rules.{rules}
 use Rattle.capi.proofs.flat_decision.Statement.{statement}
 use Rattle.capi.proofs.flat_decision.Tie as tie
 
-enum_told : tie.Need-enum-told
+enum_told : tie.Need-enum_told-1
 enum_told c = search rules
 
 planned-requires : tie.Need-planned-requires
 planned-requires c κs = search rules
 
-enum-told-2 : tie.Need-enum-told-2
+enum-told-2 : tie.Need-enum_told-in-Beyond
 enum-told-2 c = search rules
 
-planned-requires-2 : tie.Need-planned-requires-2
+planned-requires-2 : tie.Need-planned-requires-in-Beyond
 planned-requires-2 c κs = search rules
 
-returns : tie.Need-returns
+returns : tie.Need-returns-in-Repaired
 unfolding flat_decision
 returns c =
-    c.planned.ensures ∙ ap (λ (d : Decision). flat_decision d c.before.before.before.args.links) (sym c.before.enum_told.given.1)
+    c.planned.ensures ∙ ap (λ (d : Decision). flat_decision d c.args.links) (sym c.in-Repaired.is)
 
-returns-2 : tie.Need-returns-2
+returns-2 : tie.Need-returns-in-Beyond
 unfolding flat_decision
 returns-2 c =
-    c.planned2.ensures ∙ ap (λ (d : Decision). flat_decision d c.before.before.before.args.links) (sym c.before.enum-told2.given.1)
+    c.planned-in-Beyond.ensures ∙ ap (λ (d : Decision). flat_decision d c.args.links) (sym c.in-Beyond.is)
 
-pub flat-decision-spec : {M : Type 1} → statement M
-flat-decision-spec =
+pub flat_decision_spec : {M : Type 1} → statement M
+flat_decision_spec =
     tie.close
     (tie.spec enum_told planned-requires enum-told-2 planned-requires-2 returns returns-2)

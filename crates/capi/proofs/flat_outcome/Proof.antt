@@ -7,38 +7,38 @@ use borrow.Author.Rules.{rules}
 use Rattle.capi.proofs.flat_outcome.Statement.{statement}
 use Rattle.capi.proofs.flat_outcome.Tie as tie
 
-enum-known-o : tie.Need-enum-known-o
+enum-known-o : tie.Need-enum_known-o
 enum-known-o c = search rules
 
 planned-requires : tie.Need-planned-requires
 planned-requires c κs = search rules
 
-enum-known-o-2 : tie.Need-enum-known-o-2
+enum-known-o-2 : tie.Need-enum_known-o-in-Beyond-1
 enum-known-o-2 c = search rules
 
-planned-requires-2 : tie.Need-planned-requires-2
+planned-requires-2 : tie.Need-planned-requires-in-Beyond
 planned-requires-2 c κs = search rules
 
-enum-known-o-3 : tie.Need-enum-known-o-3
+enum-known-o-3 : tie.Need-enum_known-o-in-Spent-1
 enum-known-o-3 c = search rules
 
-planned-requires-3 : tie.Need-planned-requires-3
+planned-requires-3 : tie.Need-planned-requires-in-Spent
 planned-requires-3 c κs = search rules
 
-returns : tie.Need-returns
+returns : tie.Need-returns-in-Repaired
 unfolding flat_outcome
-returns c = c.planned.ensures ∙ ap (λ (o : Outcome). flat_outcome o c.before.before.before.before.args.links) (sym c.before.before.o.given.1)
+returns c = c.planned.ensures ∙ ap (λ (o : Outcome). flat_outcome o c.args.links) (sym c.in-Repaired.is)
 
-returns-2 : tie.Need-returns-2
+returns-2 : tie.Need-returns-in-Beyond
 unfolding flat_outcome
-returns-2 c = c.planned2.ensures ∙ ap (λ (o : Outcome). flat_outcome o c.before.before.before.before.args.links) (sym c.before.before.o2.given.1)
+returns-2 c = c.planned-in-Beyond.ensures ∙ ap (λ (o : Outcome). flat_outcome o c.args.links) (sym c.in-Beyond.is)
 
-returns-3 : tie.Need-returns-3
+returns-3 : tie.Need-returns-in-Spent
 unfolding flat_outcome
-returns-3 c = c.planned3.ensures ∙ ap (λ (o : Outcome). flat_outcome o c.before.before.before.before.args.links) (sym c.before.before.o3.given.1)
+returns-3 c = c.planned-in-Spent.ensures ∙ ap (λ (o : Outcome). flat_outcome o c.args.links) (sym c.in-Spent.is)
 
-pub flat-outcome-spec : {M : Type 1} → statement M
-flat-outcome-spec =
+pub flat_outcome_spec : {M : Type 1} → statement M
+flat_outcome_spec =
     tie.close
     (tie.spec
     enum-known-o

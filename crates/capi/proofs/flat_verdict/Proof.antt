@@ -6,22 +6,22 @@ use borrow.Author.Rules.{rules}
 use Rattle.capi.proofs.flat_verdict.Statement.{statement}
 use Rattle.capi.proofs.flat_verdict.Tie as tie
 
-enum_told : tie.Need-enum-told
+enum_told : tie.Need-enum_told-1
 enum_told c = search rules
 
-enum-known-v : tie.Need-enum-known-v
+enum-known-v : tie.Need-enum_known-v
 enum-known-v c = search rules
 
-cast-t4 : tie.Need-overflow-cast-t4
+cast-t4 : tie.Need-overflow_cast-result
 cast-t4 c = search rules
 
-returns : tie.Need-returns
+returns : tie.Need-returns-in-Accepted
 unfolding flat_verdict
-returns c = ap flat_verdict (sym c.enum_told.given.1)
+returns c = ap flat_verdict (sym c.in-Accepted.is)
 
-returns-2 : tie.Need-returns-2
+returns-2 : tie.Need-returns-in-Refused
 unfolding flat_verdict
-returns-2 c = ap flat_verdict (sym c.before.before.v.given.1)
+returns-2 c = ap flat_verdict (sym c.in-Refused.is)
 
-pub flat-verdict-spec : {M : Type 1} → statement M
-flat-verdict-spec = tie.close (tie.spec enum_told enum-known-v cast-t4 returns returns-2)
+pub flat_verdict_spec : {M : Type 1} → statement M
+flat_verdict_spec = tie.close (tie.spec enum_told enum-known-v cast-t4 returns returns-2)

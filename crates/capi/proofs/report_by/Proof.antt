@@ -8,20 +8,20 @@ use borrow.Author.Rules.{rules}
 use Rattle.capi.proofs.report_by.Statement.{statement}
 use Rattle.capi.proofs.report_by.Tie as tie
 
-report-by-requires : tie.Need-report-by-requires
+report-by-requires : tie.Need-report_by-requires
 report-by-requires c κs = search rules
 
-flat-length-requires : tie.Need-flat-length-requires
+flat-length-requires : tie.Need-flat_length-requires
 flat-length-requires c κs = search rules
 
-same_length : tie.Need-same-length
+same_length : tie.Need-shape_of-out
 same_length c = search rules
 
 returns : tie.Need-returns
 returns c =
-    let e = c.before.before.before.report-by.ensures in
+    let e = c.report_by.ensures in
     (flat_kept told written_kept flat_length c.flat_length.ensures e.0, e.1)
 
-pub report-by-spec : {M : Type 1} → statement M
-report-by-spec =
+pub report_by_spec : {M : Type 1} → statement M
+report_by_spec =
     tie.close (tie.spec report-by-requires flat-length-requires same_length returns)
