@@ -60,7 +60,7 @@ ready() {
     crate=$1
     shift
     for file; do readable "$file"; done
-    prove "bin/$crate" check "$crate"
+    prove "bin/$crate" run "$crate"
     for file; do readable "$file"; done
     if [ ! -x "$program" ]; then
         say "$program may not be run"
@@ -68,10 +68,10 @@ ready() {
     fi
 }
 
-# `prove FILE COMMAND CRATE` sees to it that this file of target/ is the one that `rt COMMAND CRATE` makes of the sources as they are. What is
-# proved is told on standard error, crate by crate. It ends the script where there is no proof.
+# `prove FILE COMMAND CRATE` sees to it that this file of target/ is a copy of the one that `rt COMMAND`, run or lib, makes of the sources as they
+# are, in the crate's out/. What is proved is told on standard error, crate by crate. It ends the script where there is no proof.
 prove() {
-    made=$root/target/$1 mark=$root/target/proved/${1##*/} log=$root/target/$3.log
+    place "$1" "$3"
     if is_proved; then return; fi
     for command in rt flock setsid; do
         if ! command -v $command > /dev/null; then
@@ -79,8 +79,8 @@ prove() {
             exit 2
         fi
     done
-    # One at a time. The lock is not in target/, which `rt ci` removes; rt and the provers hold descriptor 9 too, so that it is free only when
-    # the last of them has ended.
+    # One at a time. `test` holds the lock too while `rt ci` has the folders out/ aside. rt holds descriptor 9 as well, so that the lock is free
+    # only when rt has ended, with which its provers end.
     if ! (: >> "$root/.lock") 2> /dev/null; then unwritable; fi
     exec 9>> "$root/.lock"
     if ! flock -n 9; then
@@ -91,14 +91,21 @@ prove() {
     exec 9>&-
 }
 
+# `place FILE CRATE` sets where this file of target/ is kept, with its mark and its log, and where rt makes it. It is a copy, since whoever runs rt in
+# the crate's folder makes that of other sources, and `rt ci` moves out/ aside.
+place() {
+    made=$root/target/$1 mark=$root/target/proved/${1##*/} log=$root/target/$2.log
+    from=$root/crates/$2/out/${1##*/}
+}
+
 # `unwritable` ends a script that cannot have its program proved.
 unwritable() {
     say "${made#"$root/"} is not built from the sources as they are, and $root cannot be written"
     exit 2
 }
 
-# `is_proved`: what `prove` is asked for is there, and rt has proved it from the sources as they are. The mark has what they looked like and what
-# they held then; what they hold is asked where they look otherwise, as in a copy.
+# `is_proved`: what `prove` is asked for is there, and rt has proved it from the sources as they are. The mark, which `keep` makes, has what they
+# looked like and what they held then; what they hold is asked where they look otherwise, as in a copy.
 is_proved() {
     if [ ! -f "$made" ] || [ ! -r "$mark" ]; then return 1; fi
     { read -r looked && read -r held; } < "$mark" || return 1
@@ -110,29 +117,36 @@ is_proved() {
     return 0
 }
 
-# `looks` prints a sum of the names, sizes and times of the sources, `contents` one of what they hold; nothing where some cannot be read.
+# `looks` prints a sum of the names, sizes and times of the sources, `contents` one of what they hold; nothing where some cannot be read. What rt
+# makes, in the crates' folders out/, is no source.
 looks() {
-    listed=$(cd "$root" && find -L crates crates.txt -type f -printf '%p %s %T@ %C@\n' 2> /dev/null) || return 1
+    listed=$(sources -printf '%p %s %T@ %C@\n') || return 1
     printf '%s\n' "$listed" | LC_ALL=C sort | sha256sum
 }
 contents() {
-    listed=$(cd "$root" && find -L crates crates.txt -type f -exec sha256sum {} + 2> /dev/null) || return 1
+    listed=$(sources -exec sha256sum {} +) || return 1
     printf '%s\n' "$listed" | LC_ALL=C sort | sha256sum
 }
+sources() {
+    (cd "$root" && find -L crates crates.txt -regex 'crates/[^/]*/out' -prune -o -type f "$@") 2> /dev/null
+}
 
-# `run_rt COMMAND CRATE` runs rt for `prove`. Only a status of 0 makes the mark of what is proved, by the sources as they were before: one that is
-# saved meanwhile is another. rt has a process group of its own, so that an interrupt can end the provers, which do not heed it themselves. It
-# runs the program too, for which the descriptors 3 and 4 are closed; the script's own standard input is left for the program.
+# `run_rt COMMAND CRATE` runs rt in the crate's folder for `prove`. `rt run` also runs the program, on the crate's file stdin, and what it prints must
+# be the crate's file stdout, as `rt ci` wants it. rt has a process group of its own, so that an interrupt can end the provers, which do not
+# heed it themselves. The descriptors 3 and 4 are closed for the program; the script's own standard input is left for it.
 run_rt() {
-    if ! (mkdir -p "$root/target/proved" && rm -f "$mark" && : > "$log") 2> /dev/null; then unwritable; fi
-    # rt builds no program again that it has on record as proved
-    if [ ! -x "$made" ] && [ "$1" = check ]; then rm -f "$root/target/stamp/$2"; fi
+    if ! (mkdir -p "$root/target/proved" "${made%/*}" && rm -f "$mark" && : > "$log") 2> /dev/null; then unwritable; fi
     seen=$(looks)
     found=$(contents)
-    total=$(needed "$2" | wc -l)
-    say "proving and building ${made#"$root/"}, $total crates; this takes some minutes the first time"
+    crates=$(echo $(needed "$2"))
+    printed=$log given=/dev/null wanted=/dev/null
+    if [ "$1" = run ]; then printed=$root/target/$2.printed; fi
+    if [ -e "$root/crates/$2/stdin" ]; then given=$root/crates/$2/stdin; fi
+    if [ -e "$root/crates/$2/stdout" ]; then wanted=$root/crates/$2/stdout; fi
+    say "proving and building ${made#"$root/"}, $(echo "$crates" | wc -w) crates; this takes some minutes the first time"
     for signal in HUP INT QUIT TERM; do trap "stop $signal" $signal; done
-    (cd "$root" && exec setsid rt "$1" "$2") > "$log" 2>&1 < /dev/null 3<&- 4<&- &
+    : > "$printed"
+    (cd "$root/crates/$2" && exec setsid rt "$1") >> "$printed" 2>> "$log" < "$given" 3<&- 4<&- &
     told=0
     while kill -0 "$!" 2> /dev/null; do
         sleep 0.2
@@ -141,12 +155,31 @@ run_rt() {
     wait "$!" 2> /dev/null
     status=$?
     trap - HUP INT QUIT TERM
+    # the status is the program's own where rt has run it
+    if [ $status -ne 0 ] && grep -q '^rt: running ' "$log"; then
+        echo "rt: $2 is proved, and its run FAILED with status $status" >> "$log"
+    elif [ $status -eq 0 ] && [ "$1" = run ] && ! cmp -s "$printed" "$wanted"; then
+        echo "rt: $2 is proved, and its run FAILED: $printed is not what its file stdout has" >> "$log"
+        status=1
+    elif [ $status -eq 0 ] && [ ! -f "$from" ]; then
+        echo "rt: FAILED: there is no $from" >> "$log"
+        status=1
+    fi
     tell_proved
-    if [ $status -ne 0 ] || [ ! -f "$made" ]; then
+    if [ $status -ne 0 ]; then
         say "${made#"$root/"} is not proved, so it is not used; $log says why"
         exit 2
     fi
-    (printf '%s\n%s\n' "$seen" "$found" > "$mark") 2> /dev/null
+    keep || unwritable
+}
+
+# `keep` takes over what rt has made, and makes its mark. It is called only where rt has ended with status 0, so that all of it is proved: `rt run` and
+# `rt lib` build nothing else, and `test` calls it after an `rt ci` that passed. The mark has the sums of the sources from before rt began,
+# `seen` and `found`: a source that is saved meanwhile is another.
+keep() {
+    (cp "$from" "$made.$$" && mv "$made.$$" "$made" && printf '%s\n%s\n' "$seen" "$found" > "$mark") 2> /dev/null && return
+    rm -f "$made.$$" "$mark"
+    return 1
 }
 
 # `stop SIGNAL` ends the provers, and the script as by this signal, so that a loop of scripts ends with it.
@@ -161,37 +194,43 @@ stop() {
     kill "-$1" $$
 }
 
-# `tell_proved` tells what rt has printed since it was last called: the crates that it has proved, and what is wrong.
+# `tell_proved` tells what rt has printed since it was last called: the crates that it has proved, each with its place among those that are needed,
+# and what is wrong. Of a library that is built already rt prints nothing.
 tell_proved() {
     if [ ! -r "$log" ]; then return; fi
     lines=$(wc -l < "$log")
     if [ "$lines" -eq "$told" ]; then return; fi
-    awk -v script="$script" -v total="$total" -v told="$told" -v lines="$lines" '
+    awk -v script="$script" -v crates="$crates" -v told="$told" -v lines="$lines" '
+        BEGIN {
+            total = split(crates, list, " ")
+            for (k = 1; k <= total; k++) place[list[k]] = k
+        }
         NR > lines { exit }
-        !/^rt: / || $2 == "ok," || $2 ~ /^target\// || $3 ~ /^ran,?$/ { next }
-        $3 == "proved" || $3 == "NOT" { count++ }
-        NR <= told || $4 == "(unchanged" { next }
-        $3 == "proved" { print script ": " count " of " total ": " $2 ", " substr($4, 2) " s"; next }
+        /^rt: chose --jobs [0-9]+ for / { crate = $6 }
+        NR <= told { next }
+        $1 == "logic=proved" && crate in place { print script ": " place[crate] " of " total ": " crate; next }
+        $1 == "logic=not-proved" { print script ": " crate " is NOT PROVED"; next }
+        !/^rt: / || /^rt: (chose|running|nothing has changed) / || /^rt: [^ ]+: begins with / { next }
         { print script ": " substr($0, 5) }
     ' "$log" >&2
     told=$lines
 }
 
-# `needed CRATE` prints the crates of the repository that a crate needs, itself among them.
+# `needed CRATE` prints the crates of the repository that a crate needs, itself the last of them, in the order in which rt builds them.
 needed() {
     awk -v crate="$1" '
         function visit(name, list, k, count) {
             if (!(name in needs) || name in seen) return
             seen[name]
-            print name
             count = split(needs[name], list, " ")
             for (k = 1; k <= count; k++) visit(list[k])
+            print name
         }
         { sub(/#.*/, "") }
         at = index($0, ":") {
-            name = substr($0, 1, at - 1)
-            gsub(/[ \t]/, "", name)
-            needs[name] = substr($0, at + 1)
+            # a static library has a word after its name
+            split(substr($0, 1, at - 1), words, " ")
+            needs[words[1]] = substr($0, at + 1)
         }
         END { visit(crate) }
     ' "$root/crates.txt" 2> /dev/null
