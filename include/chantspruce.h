@@ -33,7 +33,7 @@
  * Each of the two may decide a map on which the other is spent. chantspruce_plan_exactly takes no limit and decides
  * every map.
  *
- * Link with libcapi.a (`rt staticlib capi` writes target/staticlib/libcapi.a, for x86-64 Linux; it needs memcpy and memset and nothing else).
+ * Link with libcapi.a (`tests/archive` writes target/staticlib/libcapi.a, for x86-64 Linux; it needs memcpy and memset and nothing else).
  * tests/c/controller.c and tests/c/field.c are small programs over it.
  *
  *

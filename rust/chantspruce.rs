@@ -3,7 +3,7 @@
 //! To use it, prove and build the library, which writes `target/staticlib/libcapi.a`, and make a crate of this file that holds the library:
 //!
 //! ```text
-//! rt staticlib capi
+//! tests/archive
 //! rustc -O --edition 2024 --crate-type rlib -L native=target/staticlib --out-dir target rust/chantspruce.rs
 //! ```
 //!
