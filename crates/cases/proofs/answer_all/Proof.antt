@@ -7,68 +7,68 @@ use borrow.Author.Rules.{rules}
 use Rattle.cases.proofs.answer_all.Statement.{statement}
 use Rattle.cases.proofs.answer_all.Tie as tie
 
-abbrev invariant-loop : tie.invariant-loop
+abbrev invariant-loop : tie.invariant-loop-at
 invariant-loop text grid₀ directions₀ across₀ down₀ file₀ s₀ held₀ at₀ grid directions across down file s held at =
     (length text ≤ 262144) × (length grid ≡ length grid₀) × (length directions ≡ length directions₀)
     × (length across ≡ length across₀) × (length down ≡ length down₀) × (length file ≡ length file₀)
 
-abbrev decreases-loop : tie.decreases-loop
+abbrev decreases-loop : tie.decreases-loop-at
 decreases-loop text grid₀ directions₀ across₀ down₀ file₀ s₀ held₀ at₀ grid directions across down file s held at =
     length text - at
 
-returns : tie.Need-returns invariant-loop decreases-loop
+returns : tie.Need-returns-then-text-gt262144 invariant-loop decreases-loop
 returns c = search rules
 
-no-session-requires : tie.Need-no-session-requires invariant-loop decreases-loop
+no-session-requires : tie.Need-no_session-held-requires invariant-loop decreases-loop
 no-session-requires c κs = search rules
 
-loop-holds : tie.Need-loop-init invariant-loop decreases-loop
+loop-holds : tie.Need-loop-at-init invariant-loop decreases-loop
 loop-holds c = search rules
 
-line-end-requires : tie.Need-line-end-requires invariant-loop decreases-loop
+line-end-requires : tie.Need-line_end-end-requires invariant-loop decreases-loop
 line-end-requires c κs = search rules
 
-sub-answer-line : tie.Need-overflow-sub-answer-line invariant-loop decreases-loop
+sub-answer-line : tie.Need-slice_bounds-answer_line-count invariant-loop decreases-loop
 sub-answer-line c = search rules
 
-part-answer-line-start : tie.Need-slice-bounds-answer-line-start invariant-loop decreases-loop
+part-answer-line-start : tie.Need-slice_bounds-answer_line-start invariant-loop decreases-loop
 part-answer-line-start c = search rules
 
-part-answer-line-end : tie.Need-slice-bounds-answer-line-end invariant-loop decreases-loop
+part-answer-line-end : tie.Need-slice_bounds-answer_line-end invariant-loop decreases-loop
 part-answer-line-end c = search rules
 
-answer-line-requires : tie.Need-answer-line-requires invariant-loop decreases-loop
+answer-line-requires : tie.Need-answer_line-next-requires invariant-loop decreases-loop
 answer-line-requires c κs = search rules
 
-add_at : tie.Need-overflow-add-at invariant-loop decreases-loop
+add_at : tie.Need-overflow_add-at invariant-loop decreases-loop
 add_at c = search rules
 
-loop-less : tie.Need-loop-smaller invariant-loop decreases-loop
+loop-less : tie.Need-loop-at-smaller invariant-loop decreases-loop
 loop-less c = search rules
 
-loop-again : tie.Need-loop-preserved invariant-loop decreases-loop
+loop-again : tie.Need-loop-at-preserved invariant-loop decreases-loop
 loop-again c = search rules
 
-same_length : tie.Need-same-length invariant-loop decreases-loop
+same_length : tie.Need-shape_of-grid invariant-loop decreases-loop
 same_length c = search rules
 
-same-length-2 : tie.Need-same-length-2 invariant-loop decreases-loop
+same-length-2 : tie.Need-shape_of-directions invariant-loop decreases-loop
 same-length-2 c = search rules
 
-same-length-3 : tie.Need-same-length-3 invariant-loop decreases-loop
+same-length-3 : tie.Need-shape_of-across invariant-loop decreases-loop
 same-length-3 c = search rules
 
-same-length-4 : tie.Need-same-length-4 invariant-loop decreases-loop
+same-length-4 : tie.Need-shape_of-down invariant-loop decreases-loop
 same-length-4 c = search rules
 
-same-length-5 : tie.Need-same-length-5 invariant-loop decreases-loop
+same-length-5 : tie.Need-shape_of-file invariant-loop decreases-loop
 same-length-5 c = search rules
 
-returns-2 : tie.Need-returns-2 invariant-loop decreases-loop
+returns-2 : tie.Need-returns invariant-loop decreases-loop
 returns-2 c = search rules
 
-pub answer-all-spec : {M : Type 1} → statement M
-answer-all-spec =
+pub answer_all_spec : {M : Type 1} → statement M
+answer_all_spec =
     tie.close
     (tie.spec
     invariant-loop

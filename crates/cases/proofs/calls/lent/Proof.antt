@@ -6,10 +6,10 @@ use lib.Seq.{length-take-le}
 use Rattle.cases.proofs.calls.lent.Statement.{statement}
 use Rattle.cases.proofs.calls.lent.Tie as tie
 
-returns : tie.Need-returns
+returns : tie.Need-returns-then-k-s
 returns c = (omega arith, sym (length-take-le _ _ (omega arith)))
 
-returns-2 : tie.Need-returns-2
+returns-2 : tie.Need-returns-else-k-s
 returns-2 c = (omega arith, sym (length-take-le _ _ (omega arith)))
 
 pub lent_spec : {M : Type 1} → statement M

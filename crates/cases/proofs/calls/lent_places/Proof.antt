@@ -6,11 +6,11 @@ use lib.Seq.{length-take-le}
 use Rattle.cases.proofs.calls.lent_places.Statement.{statement}
 use Rattle.cases.proofs.calls.lent_places.Tie as tie
 
-returns : tie.Need-returns
+returns : tie.Need-returns-then-k-s
 returns c = (omega arith, sym (length-take-le _ _ (omega arith)))
 
-returns-2 : tie.Need-returns-2
+returns-2 : tie.Need-returns-else-k-s
 returns-2 c = (omega arith, sym (length-take-le _ _ (omega arith)))
 
-pub lent-places-spec : {M : Type 1} → statement M
-lent-places-spec = tie.close (tie.spec returns returns-2)
+pub lent_places_spec : {M : Type 1} → statement M
+lent_places_spec = tie.close (tie.spec returns returns-2)

@@ -16,16 +16,16 @@ loop-holds c = search rules
 draw-requires : tie.Need-draw-requires invariant-loop decreases-loop
 draw-requires c κs = search rules
 
-add-d : tie.Need-overflow-add-d invariant-loop decreases-loop
+add-d : tie.Need-overflow_add-d invariant-loop decreases-loop
 add-d c = search rules
 
-is-blocked-requires : tie.Need-is-blocked-requires invariant-loop decreases-loop
+is-blocked-requires : tie.Need-is_blocked-requires invariant-loop decreases-loop
 is-blocked-requires c κs = search rules
 
-returns : tie.Need-returns invariant-loop decreases-loop
+returns : tie.Need-returns-then-not-is_blocked invariant-loop decreases-loop
 returns c = search rules
 
-add-counter : tie.Need-overflow-add-counter invariant-loop decreases-loop
+add-counter : tie.Need-overflow_step invariant-loop decreases-loop
 add-counter c = search rules
 
 loop-less : tie.Need-loop-smaller invariant-loop decreases-loop
@@ -37,14 +37,14 @@ loop-again c = search rules
 draw-requires-2 : tie.Need-draw-requires-2 invariant-loop decreases-loop
 draw-requires-2 c κs = search rules
 
-add-result : tie.Need-overflow-add-result invariant-loop decreases-loop
+add-result : tie.Need-overflow_add-result invariant-loop decreases-loop
 add-result c = search rules
 
-returns-2 : tie.Need-returns-2 invariant-loop decreases-loop
+returns-2 : tie.Need-returns invariant-loop decreases-loop
 returns-2 c = search rules
 
-pub draw-direction-spec : {M : Type 1} → statement M
-draw-direction-spec =
+pub draw_direction_spec : {M : Type 1} → statement M
+draw_direction_spec =
     tie.close
     (tie.spec
     invariant-loop

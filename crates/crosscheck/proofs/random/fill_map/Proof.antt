@@ -10,31 +10,31 @@ invariant-loop seed₀ n m grid₀ kind x y count share counter₀ seed grid cou
 abbrev decreases-loop : tie.decreases-loop
 decreases-loop seed₀ n m grid₀ kind x y count share counter₀ seed grid counter = count - counter
 
-fill-blank-requires : tie.Need-fill-blank-requires invariant-loop decreases-loop
+fill-blank-requires : tie.Need-fill_blank-requires invariant-loop decreases-loop
 fill-blank-requires c κs = search rules
 
-draw-requires : tie.Need-draw-requires invariant-loop decreases-loop
+draw-requires : tie.Need-draw-kind-requires invariant-loop decreases-loop
 draw-requires c κs = search rules
 
-draw-inner-requires : tie.Need-draw-inner-requires invariant-loop decreases-loop
+draw-inner-requires : tie.Need-draw_inner-x-requires invariant-loop decreases-loop
 draw-inner-requires c κs = search rules
 
-draw-inner-requires-2 : tie.Need-draw-inner-requires-2 invariant-loop decreases-loop
+draw-inner-requires-2 : tie.Need-draw_inner-y-requires invariant-loop decreases-loop
 draw-inner-requires-2 c κs = search rules
 
-draw-count-requires : tie.Need-draw-count-requires invariant-loop decreases-loop
+draw-count-requires : tie.Need-draw_count-count-requires invariant-loop decreases-loop
 draw-count-requires c κs = search rules
 
-draw-share-requires : tie.Need-draw-share-requires invariant-loop decreases-loop
+draw-share-requires : tie.Need-draw_share-share-requires invariant-loop decreases-loop
 draw-share-requires c κs = search rules
 
 loop-holds : tie.Need-loop-init invariant-loop decreases-loop
 loop-holds c = search rules
 
-add-fault-requires : tie.Need-add-fault-requires invariant-loop decreases-loop
+add-fault-requires : tie.Need-add_fault-requires invariant-loop decreases-loop
 add-fault-requires c κs = search rules
 
-add-counter : tie.Need-overflow-add-counter invariant-loop decreases-loop
+add-counter : tie.Need-overflow_step invariant-loop decreases-loop
 add-counter c = search rules
 
 loop-less : tie.Need-loop-smaller invariant-loop decreases-loop
@@ -43,14 +43,14 @@ loop-less c = search rules
 loop-again : tie.Need-loop-preserved invariant-loop decreases-loop
 loop-again c = search rules
 
-same_length : tie.Need-same-length invariant-loop decreases-loop
+same_length : tie.Need-shape_of-grid invariant-loop decreases-loop
 same_length c = search rules
 
 returns : tie.Need-returns invariant-loop decreases-loop
 returns c = search rules
 
-pub fill-map-spec : {M : Type 1} → statement M
-fill-map-spec =
+pub fill_map_spec : {M : Type 1} → statement M
+fill_map_spec =
     tie.close
     (tie.spec
     invariant-loop

@@ -4,35 +4,35 @@ use Rattle.std.proofs.Common.{◌≡◌, ◌-◌, length, rules}
 use Rattle.crosscheck.proofs.random.fill_paths.Statement.{statement}
 use Rattle.crosscheck.proofs.random.fill_paths.Tie as tie
 
-abbrev invariant-loop : tie.invariant-loop
+abbrev invariant-loop : tie.invariant-loop-p
 invariant-loop seed₀ n m k directions₀ p₀ seed directions p = length directions ≡ length directions₀
 
-abbrev decreases-loop : tie.decreases-loop
+abbrev decreases-loop : tie.decreases-loop-p
 decreases-loop seed₀ n m k directions₀ p₀ seed directions p = 1024 - p
 
-loop-holds : tie.Need-loop-init invariant-loop decreases-loop
+loop-holds : tie.Need-loop-p-init invariant-loop decreases-loop
 loop-holds c = search rules
 
-put-path-requires : tie.Need-put-path-requires invariant-loop decreases-loop
+put-path-requires : tie.Need-put_path-requires invariant-loop decreases-loop
 put-path-requires c κs = search rules
 
-add-p : tie.Need-overflow-add-p invariant-loop decreases-loop
+add-p : tie.Need-overflow_step-p invariant-loop decreases-loop
 add-p c = search rules
 
-loop-less : tie.Need-loop-smaller invariant-loop decreases-loop
+loop-less : tie.Need-loop-p-smaller invariant-loop decreases-loop
 loop-less c = search rules
 
-loop-again : tie.Need-loop-preserved invariant-loop decreases-loop
+loop-again : tie.Need-loop-p-preserved invariant-loop decreases-loop
 loop-again c = search rules
 
-same_length : tie.Need-same-length invariant-loop decreases-loop
+same_length : tie.Need-shape_of-directions invariant-loop decreases-loop
 same_length c = search rules
 
 returns : tie.Need-returns invariant-loop decreases-loop
 returns c = search rules
 
-pub fill-paths-spec : {M : Type 1} → statement M
-fill-paths-spec =
+pub fill_paths_spec : {M : Type 1} → statement M
+fill_paths_spec =
     tie.close
     (tie.spec
     invariant-loop
