@@ -1,4 +1,6 @@
 // Positions of the array, fault maps, and what the tests of a call's arguments answer.
+#![tactic(auto)]
+
 ghost use Rattle.std.specs.Prelude.{◌≡◌, true, ◌≤◌, ◌<◌, length};
 ghost use Rattle.array.specs.Place.{size, inner_at, corner_at, processor_at, inner, processor};
 ghost use Rattle.array.specs.Map.{dead_mark, faulty_mark, inner_faulty, allowed_at, marks_test, map_tests};

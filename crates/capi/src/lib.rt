@@ -1,4 +1,6 @@
 // The operations for controllers in C and Rust (include/chantspruce.h): each makes one call and returns its answer as a flat struct.
+#![tactic(auto)]
+
 ghost use Rattle.std.specs.Prelude.{◌≡◌};
 ghost use Rattle.formats.specs.Number.{number_at};
 ghost use Rattle.plans.specs.Check.{check_plan};

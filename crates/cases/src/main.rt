@@ -1,4 +1,6 @@
 // Reads lines from standard input that set up wafers and files or call an operation, and prints each, a call with its answer.
+#![tactic(auto)]
+
 mod calls;
 mod faults;
 mod reports;

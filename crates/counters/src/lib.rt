@@ -1,4 +1,6 @@
 // Counters: how many kept paths stand in the way of a path from each inner position, by direction. Inner parts of sessions.
+#![tactic(auto)]
+
 ghost use Rattle.std.specs.Prelude.{◌≡◌, cond, ◌&&◌, ◌≤◌, length};
 ghost use Rattle.array.specs.Place.{inner};
 ghost use Rattle.array.specs.Buffer.{zeros};

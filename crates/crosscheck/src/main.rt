@@ -1,4 +1,6 @@
 // Compares the proved operations with second ones and with brute force on random maps, and prints what was compared.
+#![tactic(auto)]
+
 mod answers;
 mod counts;
 mod exactly;

@@ -1,4 +1,6 @@
 // Draws the wafer of the map file on standard input, of which no more than 4,096 bytes are read, and its repair, as an SVG on standard output.
+#![tactic(auto)]
+
 mod layers;
 mod links;
 mod output;

@@ -1,6 +1,8 @@
 // The exact planner, which is never spent (docs/EXACT.md). It tries pairs of faults; each pair leaves every other fault at
 // most two directions, of which propagation finds the first that pass together; the first of these over all pairs is the
 // first of all plans. The functions are inner parts: each requires what the planner has tested.
+#![tactic(auto)]
+
 ghost use Rattle.std.specs.Prelude.{◌≡◌, true, false, cond, ◌&&◌, ℕ, ◌+◌, ◌*◌, ◌-◌, ◌≤◌, ◌<◌, ltb, length, get_or, take};
 ghost use Rattle.array.specs.Buffer.{buffer, zeros};
 ghost use Rattle.paths.specs.Path.{is_open};

@@ -1,4 +1,6 @@
 // Inner parts of the follower: ports, stretches, joins, a link followed from node to node, and test 16.
+#![tactic(auto)]
+
 ghost use Rattle.std.specs.Prelude.{◌≡◌, false, List, ℕ, ◌≤◌, ◌<◌, length};
 ghost use Rattle.array.specs.Map.{dead_mark, inner_faulty};
 ghost use Rattle.track.specs.Letters.{switch_byte};

@@ -1,4 +1,6 @@
 // Numbers of a file, the two kinds of file and the kinds of record.
+#![tactic(auto)]
+
 ghost use Rattle.std.specs.Prelude.{◌≡◌, ℕ, ◌<◌, ◌≤◌, length};
 ghost use Rattle.formats.specs.Number.{told, refused, groups_limit, Below, groups_at, number_at, bytes_of, refusal_of};
 ghost use Rattle.formats.specs.Parts.{Room, Wrote};

@@ -3,6 +3,8 @@
 // report, or `preview ROW COLUMN`, which asks what a failure there would do. A blank line and one whose first character is #
 // are skipped, and the first other one ends the history. No more than 4,096 bytes are read of either file, of which a longer
 // one is never accepted, and no input of 65,536 bytes or more is taken.
+#![tactic(auto)]
+
 ghost use Rattle.std.specs.Prelude.{◌≡◌};
 ghost use Rattle.history.specs.Held.{held_after};
 
@@ -13,6 +15,7 @@ use sessions::Session;
 
 // The descriptors of standard input and standard output.
 const STDIN_FILENO: i32 = 0;
+
 const STDOUT_FILENO: i32 = 1;
 
 // The descriptors of the two files.

@@ -1,4 +1,6 @@
 // The listing of a map file, as the bench program prints it: the map, the outcome, and after a repair the paths, the cells and the switches.
+#![tactic(auto)]
+
 ghost use Rattle.std.specs.Prelude.{◌≡◌, ◌∷◌, [], cond, length};
 ghost use Rattle.array.specs.Buffer.{zeros};
 ghost use Rattle.array.specs.Map.{inner_faulty};

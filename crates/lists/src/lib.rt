@@ -1,4 +1,6 @@
 // The plan check of a slice of faults that the caller lends. check_fault_list is for callers; the other functions are inner parts.
+#![tactic(auto)]
+
 ghost use Rattle.std.specs.Prelude.{◌≡◌, [], ◌∷◌, ◌≤◌, length, take};
 ghost use Rattle.array.specs.Tests.{told};
 ghost use Rattle.plans.specs.Faults.{fault, paired};

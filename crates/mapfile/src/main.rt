@@ -1,11 +1,15 @@
 // Turns the text grid on standard input into a map file on standard output. What is wrong with the text goes to standard error, and
 // nothing to standard output then.
+#![tactic(auto)]
+
 use grids::{TextRead, Wrong};
 use writers::FileWritten;
 
 // The descriptors of standard error, standard input and standard output.
 const STDERR_FILENO: i32 = 2;
+
 const STDIN_FILENO: i32 = 0;
+
 const STDOUT_FILENO: i32 = 1;
 
 // Tells words.

@@ -1,12 +1,16 @@
 // Prints the text grid of the map file on standard input, of which no more than 4,096 bytes are read. Why a file is no map goes to
 // standard error, and nothing to standard output then.
+#![tactic(auto)]
+
 use array::Refusal;
 use readers::MapRead;
 use writers::FileWritten;
 
 // The descriptors of standard error, standard input and standard output.
 const STDERR_FILENO: i32 = 2;
+
 const STDIN_FILENO: i32 = 0;
+
 const STDOUT_FILENO: i32 = 1;
 
 // Tells words.

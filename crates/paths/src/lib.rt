@@ -1,4 +1,6 @@
 // Paths: whether one is open, and whether two of them meet or are a near-miss. The functions are inner parts of the operations.
+#![tactic(auto)]
+
 ghost use Rattle.std.specs.Prelude.{◌≡◌, ◌≤◌, ◌<◌, ◌-◌, length};
 ghost use Rattle.paths.specs.Path.{ahead, path_length, is_free, from_rim, is_open, refuse_clash, Start};
 ghost use Rattle.paths.specs.Table.{class, entry, byte_of, ClashTable, TableAgrees};

@@ -1,5 +1,7 @@
 // The quick planner: it settles outer faults first, and searches over the rest.
 // The functions are inner parts: each requires what the planner has tested.
+#![tactic(auto)]
+
 ghost use Rattle.std.specs.Prelude.{◌≡◌, ◌&&◌, eqb, ◌-◌, ◌≤◌, ◌<◌, length, take};
 ghost use Rattle.array.specs.Buffer.{buffer};
 ghost use Rattle.paths.specs.Path.{Start, is_open};

@@ -1,11 +1,14 @@
 // Says whether the plan file on descriptor 3 is a plan for the map file on standard input, in a line on standard output. No more
 // than 4,096 bytes are read of either file. A longer one is never accepted: a map file has at most 2,046 bytes and a plan file at
 // most 2,707, so the first byte after its last part is among those that are read.
+#![tactic(auto)]
+
 use array::{Refusal, Verdict};
 use readers::{FileRead, Head, MapRead};
 
 // The descriptors of standard input and standard output.
 const STDIN_FILENO: i32 = 0;
+
 const STDOUT_FILENO: i32 = 1;
 
 // The descriptor of the plan file.

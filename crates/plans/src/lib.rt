@@ -1,4 +1,6 @@
 // Plans: the inner faults in row order, and the plan check.
+#![tactic(auto)]
+
 ghost use Rattle.std.specs.Prelude.{◌≡◌, true, ℕ, ◌≤◌, ◌<◌, length, get_or};
 ghost use Rattle.array.specs.Map.{inner_faulty};
 ghost use Rattle.array.specs.Tests.{told};

@@ -1,5 +1,7 @@
 // The preview of a field report: what the report would answer and leave, without making it (document 02, T-08).
 // preview is for callers, count_changes serves `history`; the other functions are inner parts.
+#![tactic(auto)]
+
 ghost use Rattle.std.specs.Prelude.{◌≡◌, ◌≤◌};
 ghost use Rattle.array.specs.Tests.{told};
 ghost use Rattle.sessions.specs.Session.{report_test};

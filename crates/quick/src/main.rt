@@ -1,8 +1,11 @@
 // Prints the listing of the map file on standard input by the quick planner. No more than 4,096 bytes are read.
+#![tactic(auto)]
+
 use repair::Planner;
 
 // The descriptors of standard input and standard output.
 const STDIN_FILENO: i32 = 0;
+
 const STDOUT_FILENO: i32 = 1;
 
 fn main() {

@@ -1,4 +1,6 @@
 // The readers of map and plan files.
+#![tactic(auto)]
+
 ghost use Rattle.std.specs.Prelude.{◌≡◌, ℕ, ◌≤◌, ◌<◌, length};
 ghost use Rattle.array.specs.Place.{position};
 ghost use Rattle.array.specs.Tests.{refusal};

@@ -1,6 +1,8 @@
 // Writes the plan file of the map file on standard input, of which no more than 4,096 bytes are read, to standard output, with
 // the trials on record. The first byte on descriptor 3 says by which planner. Why there is no plan file goes to standard error,
 // and nothing to standard output then.
+#![tactic(auto)]
+
 use array::Refusal;
 use exact::Decision;
 use readers::{Head, MapRead};
@@ -10,7 +12,9 @@ use writers::FileWritten;
 
 // The descriptors of standard error, standard input and standard output.
 const STDERR_FILENO: i32 = 2;
+
 const STDIN_FILENO: i32 = 0;
+
 const STDOUT_FILENO: i32 = 1;
 
 // The descriptor that says by which planner.

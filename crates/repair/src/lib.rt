@@ -1,4 +1,6 @@
 // The operations of a run: the planners, placement, routing and follower.
+#![tactic(auto)]
+
 ghost use Rattle.std.specs.Prelude.{◌≡◌, true, ◌≤◌, ◌<◌, length};
 ghost use Rattle.array.specs.Place.{inner};
 ghost use Rattle.plans.specs.Inner.{Directed};

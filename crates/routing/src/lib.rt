@@ -1,6 +1,8 @@
 // Inner parts of placement and routing: the operations call these once the tests have passed. `traced` holds the direction of the
 // path through each position (1 south, 2 north, 3 east, 4 west, 0 none). As a bool `down` tells a down switch (SW1 in document 003)
 // from an across switch (SW2); as a buffer it holds the letters of the down switches.
+#![tactic(auto)]
+
 ghost use Rattle.std.specs.Prelude.{◌≡◌, ◌≤◌, ◌<◌, length};
 ghost use Rattle.array.specs.Buffer.{buffer, zeros};
 ghost use Rattle.paths.specs.Path.{ahead, path, Start};

@@ -1,4 +1,6 @@
 // One run: planner, placement, routing, and the follower on every link to a neighbour.
+#![tactic(auto)]
+
 ghost use Rattle.std.specs.Prelude.{◌≡◌, ◌≤◌, ◌<◌, length, get_or};
 ghost use Rattle.track.specs.Ports.{wafer};
 ghost use Rattle.repair.specs.Operations.{places_after, across_after, down_after, is_repaired};

@@ -1,5 +1,7 @@
 // Sessions: field reports of processors that fail and recover one at a time (document 02, T-07).
 // start_session, report and report_fields are for callers; the other functions are inner parts.
+#![tactic(auto)]
+
 ghost use Rattle.std.specs.Prelude.{◌≡◌, cond, ◌<◌, length};
 ghost use Rattle.array.specs.Map.{faulty_mark};
 ghost use Rattle.array.specs.Tests.{told, or_else, refuse_if};

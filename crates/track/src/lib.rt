@@ -1,4 +1,6 @@
 // Placement, switches and links.
+#![tactic(auto)]
+
 ghost use Rattle.std.specs.Prelude.{◌≡◌, ◌≤◌};
 ghost use Rattle.track.specs.Letters.{letter};
 

@@ -1,4 +1,6 @@
 // The search for a plan. The functions are inner parts of the planner: each requires what the planner has tested.
+#![tactic(auto)]
+
 ghost use Rattle.std.specs.Prelude.{◌≡◌, [], ℕ, ◌≤◌, ◌<◌, length, get_or, take};
 ghost use Rattle.array.specs.Buffer.{buffer, zeros};
 ghost use Rattle.paths.specs.Path.{is_open};

@@ -1,4 +1,6 @@
 // The lines of a text, the words of a line, and the numbers that they spell, for programs that read text.
+#![tactic(auto)]
+
 ghost use Rattle.std.specs.Prelude.{◌≤◌, length};
 
 // A word starts at `start` and ends before `end`. Where a line has no such word the two are equal.

@@ -1,4 +1,6 @@
 // The writers of map and plan files.
+#![tactic(auto)]
+
 ghost use Rattle.std.specs.Prelude.{◌≡◌, ◌<◌, ◌≤◌, length};
 ghost use Rattle.array.specs.Tests.{or_else, first_in};
 ghost use Rattle.array.specs.declared.Verdict.TheVariants.{Accepted};

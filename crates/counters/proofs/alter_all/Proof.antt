@@ -64,8 +64,7 @@ loop-less c = search rules
 
 loop-again : tie.Need-loop-p-preserved invariant-loop decreases-loop
 loop-again c =
-    let s = c.loop-p.invariant in
-    (
+    let s = c.loop-p.invariant in (
       alter_step s.0 _ (omega arith) c.alter_at.ensures,
       alter_step s.1 _ (omega arith) c.alter_at-in-loop-p.ensures,
       alter_step s.2 _ (omega arith) c.alter_at-in-loop-p-2.ensures,

@@ -42,15 +42,14 @@ slice-aggregate-list-rows-4 : tie.Need-slice_bounds-list_rows-end-4
 slice-aggregate-list-rows-4 c = search rules
 
 list-rows-requires : tie.Need-list_rows-requires
-list-rows-requires c κs =
-    (
-      placed_sited c.requires.0 c.clash_table-clashes.ensures.0,
-      c.list_open.ensures.0,
-      refl,
-      refl,
-      refl,
-      refl,
-    )
+list-rows-requires c κs = (
+  placed_sited c.requires.0 c.clash_table-clashes.ensures.0,
+  c.list_open.ensures.0,
+  refl,
+  refl,
+  refl,
+  refl,
+)
 
 slice-aggregate-try-pairs : tie.Need-slice_bounds-try_pairs-end
 slice-aggregate-try-pairs c = search rules

@@ -2,7 +2,7 @@
 -- Assumes nothing.
 use mathlib.Core.Path.{ap, ◌∙◌}
 use lib.ListN.{length}
-use borrow.Author.Tests.{not-true, not-false}
+use borrow.Author.Tests.{not-true}
 use Rattle.exact.proofs.Striking.{judge_yes, judge_no, held_copied}
 use Rattle.exact.proofs.Spreading.{down_ready, down_yes, down_no, settled_copied}
 use borrow.Author.Rules.{rules}

@@ -2,7 +2,7 @@
 -- Assumes nothing.
 use mathlib.Core.Path.{◌≡◌, refl, sym, ◌∙◌}
 use lib.ListN.{length, length-set}
-use borrow.Author.Tests.{not-true, not-false}
+use borrow.Author.Tests.{not-true}
 use Rattle.exact.specs.Inner.{clears_on}
 use Rattle.exact.proofs.Listing.{still_listed}
 use Rattle.exact.proofs.Striking.{judge_yes, judge_no}
@@ -19,14 +19,13 @@ abbrev decreases-loop : tie.decreases-loop-f
 decreases-loop clashes starts lists ends rest lo₀ hi₀ done₀ count f₀ lo hi done f = unmarked done
 
 find-next-requires : tie.Need-find_next-f-requires invariant-loop decreases-loop
-find-next-requires c κs =
-    (
-      omega arith,
-      omega (arith, c.requires.held.room, c.requires.held.low_long),
-      omega (arith, c.requires.held.room, c.requires.held.high_long),
-      omega
-          (arith, c.requires.held.room, c.requires.done_long),
-    )
+find-next-requires c κs = (
+  omega arith,
+  omega (arith, c.requires.held.room, c.requires.held.low_long),
+  omega (arith, c.requires.held.room, c.requires.held.high_long),
+  omega
+      (arith, c.requires.held.room, c.requires.done_long),
+)
 
 loop-holds : tie.Need-loop-f-init invariant-loop decreases-loop
 loop-holds c =

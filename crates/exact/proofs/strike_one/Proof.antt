@@ -2,7 +2,6 @@
 -- Assumes nothing.
 use native.Mathlib.Omega.{arith}
 use borrow.Author.Tests.{not-false}
-use Rattle.exact.specs.Options.{at}
 use Rattle.exact.proofs.Striking.{one_struck, none_struck, two_struck}
 use borrow.Author.Rules.{rules}
 use Rattle.exact.proofs.strike_one.Statement.{statement}

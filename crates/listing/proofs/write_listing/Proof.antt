@@ -36,19 +36,18 @@ slice-aggregate-write-file-5 c = search rules
 
 write-file-requires : tie.Need-write_file-requires
 unfolding span
-write-file-requires c κs =
-    (
-      refl,
-      refl,
-      record {
-        grid_long = refl;
-        directions_long = refl;
-        places_blank = refl;
-        across_blank = refl;
-        down_blank = refl;
-      },
-      omega (arith, fits c.before.before.before.before.before.before.before.before, c.requires),
-    )
+write-file-requires c κs = (
+  refl,
+  refl,
+  record {
+    grid_long = refl;
+    directions_long = refl;
+    places_blank = refl;
+    across_blank = refl;
+    down_blank = refl;
+  },
+  omega (arith, fits c.before.before.before.before.before.before.before.before, c.requires),
+)
 
 same_length : tie.Need-shape_of-out
 same_length c = search rules

@@ -1,6 +1,6 @@
 -- `lists::check_fault_list` meets its contract: the faults are gathered, and the first 1,024 decide.
-use mathlib.Core.Path.{◌≡◌, refl, sym, ap, ◌∙◌}
-use Prim.Native.Nat.{ℕ, ◌≤◌}
+use mathlib.Core.Path.{◌≡◌, sym, ap, ◌∙◌}
+use Prim.Native.Nat.{ℕ}
 use lib.ListN.{length, take, replicate, length-replicate}
 use native.Mathlib.Omega.{arith}
 use Rattle.array.specs.Tests.{told}
@@ -9,7 +9,6 @@ use Rattle.lists.specs.FaultList.{check_fault_list, held}
 use Rattle.lists.proofs.Lists.{lower_is, check_take}
 use Rattle.lists.proofs.Gathering.{gather_start, gather_turn, gather_end}
 use Rattle.lists.proofs.check_fault_list.Goals as goal
-
 
 pub loop-i-init : goal.loop-i-init
 loop-i-init c =

@@ -2,8 +2,6 @@
 -- Assumes nothing.
 use mathlib.Core.Path.{sym, ap, ◌∙◌}
 use mathlib.Core.Bool.{Bool, cond}
-use Prim.Native.Nat.{◌-◌}
-use Rattle.paths.specs.Path.{is_open}
 use Rattle.trials.proofs.Testing.{start_at}
 use Rattle.trials.proofs.Noting.{note_says, noted_set}
 use native.Mathlib.Omega.{arith}
