@@ -1,6 +1,7 @@
 // The clash table: how two paths from distinct starts clash, 0 clear, 1 meeting, 2 near-miss. Beside the entries stand the direction of the first
-// path, that of the second, and the class of the difference of their rows, second start less first. Each such line begins five entries, for the
-// column difference below -1, -1, 0, 1 and above 1. Where both differences are 0 the starts are not distinct: clear, and never read.
+// path, that of the second, and the class of the difference of their rows, second start less first, behind the first of five entries, of which the
+// other four stand in the next line: for the column difference below -1, -1, 0, 1 and above 1. Where both differences are 0 the starts are not
+// distinct: clear, and never read.
 pub const CLASHES: [u8; 400] = [
     0, // south, south, below -1
     0, 1, 0, 0, 0, // south, south, -1
