@@ -4,7 +4,8 @@
 usage: tools/turn_proofs.py NAMES CRATE     NAMES is the names.json of `rt check --generated DIR --old-names`
 
 A step that was counted (`if1`, `loop2`, `is-size2`, `match`) is named after its source now (`if-x-n`, `loop-y`, `is_size-2`, `in-1`),
-and so are the goals. Nothing else of a proof changes.
+and so are the goals. A path from the record of a place goes up as many places as there are now, and a local name for such a record is
+written out. Nothing else of a proof changes; what it could not turn is printed.
 """
 
 import json

@@ -125,8 +125,7 @@ pub fn check_fault_list(n: usize, m: usize, grid: &[u8], faults: &[Fault]) -> Ve
     check_gathered(n, m, grid, positions, directions, count)
 }
 
-// The plan check of the list of the first `count` of four faults, for `cases`, which holds them by value: the borrow checker covers no
-// function that lends an array of structs.
+// The plan check of the list of the first `count` of four faults, for `cases`, which holds them by value.
 pub fn check_few(
     n: usize,
     m: usize,
