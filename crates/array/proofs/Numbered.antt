@@ -8,8 +8,8 @@ use borrow.Author.Tests.{leb-true}
 use lib.Dec.{leb}
 use Rattle.array.specs.Tests.{or_else, first_of, first_along, Told, accepts, refuses, told, last_number, Numbered}
 use Rattle.array.specs.Map.{map_tests}
-use Rattle.array.specs.declared.Verdict.{Verdict}
-use Rattle.array.specs.declared.Verdict.TheVariants.{Accepted, Refused}
+use Rattle.array.specs.Tests.{Verdict}
+use Rattle.std.specs.Prelude.{Ok, Err}
 use Rattle.array.proofs.Bools.{and_true}
 
 -- `Numbered` as a test, which computes
@@ -39,8 +39,8 @@ module _ {A : Type 0} {told : A → Told} where
   numbered_cond false h g = g
 
 pub numbered_or : (a : Verdict) {b : Verdict} → NumberedVerdict a → NumberedVerdict b → NumberedVerdict (or_else a b)
-numbered_or Accepted h g = g
-numbered_or (Refused r) h g = h
+numbered_or (Ok tt) h g = g
+numbered_or (Err r) h g = h
 
 pub numbered_each : {A : Type 0} (f : A → Verdict) → ((x : A) → NumberedVerdict (f x)) → (xs : List A)
     → NumberedVerdict (first_of f xs)

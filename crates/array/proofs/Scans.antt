@@ -9,8 +9,8 @@ use native.Mathlib.Omega.{arith}
 use lib.ListN.{length, get_or, drop, drop_of_length-le}
 use lib.Seq.{drop-cons}
 use Rattle.array.specs.Tests.{or_else, refuse, refuse_if, first_of, first_along}
-use Rattle.array.specs.declared.Verdict.{Verdict}
-use Rattle.array.specs.declared.Verdict.TheVariants.{Accepted, Refused}
+use Rattle.array.specs.Tests.{Verdict}
+use Rattle.std.specs.Prelude.{Ok, Err}
 use Rattle.array.proofs.Bools.{by_lt}
 use Rattle.array.proofs.Verdicts.{both_accepted}
 
@@ -69,7 +69,7 @@ module _ {T R : Type 0} {pass : T} {stop : R → T} {or : T → T → T} where
       scan_all h = scan_all_from 0 (λ k i l. h k l)
 
 -- The same of verdicts.
-pub verdicts : Answers Accepted Refused or_else
+pub verdicts : Answers (Ok tt) Err or_else
 verdicts = record { passes_on = λ later. refl; stays = λ r later. refl }
 
 abbrev pub Scan : (ℕ → Verdict) → (ℕ → Verdict) → ℕ → Type 0
@@ -89,7 +89,7 @@ module _ {f rest : ℕ → Verdict} {n i : ℕ} {v : Verdict} (s : Seeking f res
 
 -- No index is refused where nothing is.
 module _ {f rest : ℕ → Verdict} {n : ℕ} (s : Scan f rest n) where
-  each_after : (d i k : ℕ) → i + d ≡ k → k < n → rest i ≡ Accepted → f k ≡ Accepted
+  each_after : (d i k : ℕ) → i + d ≡ k → k < n → rest i ≡ Ok tt → f k ≡ Ok tt
   each_after zero i k e l h =
       let x = both_accepted (f i) (rest (i + 1)) (sym (s.turn i (omega arith)) ∙ h) in
       let y : k ≡ i = omega arith in
@@ -98,10 +98,10 @@ module _ {f rest : ℕ → Verdict} {n : ℕ} (s : Scan f rest n) where
       let x = both_accepted (f i) (rest (i + 1)) (sym (s.turn i (omega arith)) ∙ h) in
       each_after d (i + 1) k (omega arith) l x.1
 
-  pub scan_each_from : (i : ℕ) → rest i ≡ Accepted → (k : ℕ) → i ≤ k → k < n → f k ≡ Accepted
+  pub scan_each_from : (i : ℕ) → rest i ≡ Ok tt → (k : ℕ) → i ≤ k → k < n → f k ≡ Ok tt
   scan_each_from i h k g l = each_after (k - i) i k (omega arith) l h
 
-  pub scan_each : rest 0 ≡ Accepted → (k : ℕ) → k < n → f k ≡ Accepted
+  pub scan_each : rest 0 ≡ Ok tt → (k : ℕ) → k < n → f k ≡ Ok tt
   scan_each h k l = scan_each_from 0 h k (omega arith) l
 
 -- Along a buffer, by position and element.
@@ -116,7 +116,7 @@ module _ (f : ℕ → ℕ → Verdict) (b : List ℕ) where
   unfolding first_along
   along_turn i h = rw (drop-cons b i 0 h, add-one i)
 
-  along_end : (i : ℕ) → length b ≤ i → from_position f b i ≡ Accepted
+  along_end : (i : ℕ) → length b ≤ i → from_position f b i ≡ Ok tt
   unfolding first_along
   along_end i h = rw (drop_of_length-le b h)
 
@@ -129,7 +129,7 @@ module _ {A : Type 0} (f : A → Verdict) (l : List A) (x : A) where
   unfolding first_of
   of_turn i h = rw (drop-cons l i x h, add-one i)
 
-  of_end : (i : ℕ) → length l ≤ i → first_of f (drop i l) ≡ Accepted
+  of_end : (i : ℕ) → length l ≤ i → first_of f (drop i l) ≡ Ok tt
   unfolding first_of
   of_end i h = rw (drop_of_length-le l h)
 

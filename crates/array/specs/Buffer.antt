@@ -1,8 +1,8 @@
 -- Document 01, "The array": buffers of 1,024 elements indexed by position, as lists.
 -- Assumes nothing.
 use Rattle.std.specs.Prelude.{ℕ, zero, suc, ◌<◌, ◌≡◌, Bool, true, cond, ◌&&◌, List, [], ◌∷◌, eqb, length, get_or}
-use Rattle.array.specs.declared.Verdict.{Verdict}
-use Rattle.array.specs.declared.Verdict.TheVariants.{Accepted, Refused}
+use Rattle.array.specs.Tests.{Verdict}
+use Rattle.std.specs.Prelude.{Ok, Err}
 
 -- f i, f (i + 1), .. of k places
 unfoldable pub span : (ℕ → ℕ) → ℕ → ℕ → List ℕ
@@ -58,5 +58,5 @@ all_long (b ∷ bs) = long b && all_long bs
 
 -- a buffer after a call: what is written where the call is accepted, else as it was
 abbrev pub written : Verdict → List ℕ → List ℕ → List ℕ
-written Accepted new old = new
-written (Refused r) new old = old
+written (Ok tt) new old = new
+written (Err r) new old = old

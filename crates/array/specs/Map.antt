@@ -2,9 +2,8 @@
 -- map. Assumes nothing.
 use Rattle.std.specs.Prelude.{ℕ, Bool, cond, not, ◌&&◌, ◌||◌, List, [], ◌∷◌, leb, eqb, get_or}
 use Rattle.array.specs.Place.{size, row, column, inner_at, inner, processor_at}
-use Rattle.array.specs.Tests.{or_else, refuse_if, first_in}
+use Rattle.array.specs.Tests.{Verdict, or_else, refuse_if, first_in}
 use Rattle.array.specs.Buffer.{all_long}
-use Rattle.array.specs.declared.Verdict.{Verdict}
 
 -- document 02's "dead processor" (T-04): a fault that cannot be made a connecting element
 abbrev pub dead_mark : ℕ → Bool

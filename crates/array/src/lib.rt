@@ -1,24 +1,77 @@
 // Positions of the array, fault maps, and what the tests of a call's arguments answer.
 #![tactic(auto)]
 
-ghost use Rattle.std.specs.Prelude.{◌≡◌, true, ◌≤◌, ◌<◌, length};
+ghost use Rattle.std.specs.Prelude.{◌≡◌, true, ◌≤◌, ◌<◌, length, IfOk};
 ghost use Rattle.array.specs.Place.{size, inner_at, corner_at, processor_at, inner, processor};
+ghost use Rattle.array.specs.Reason.{number_of};
+ghost use Rattle.array.specs.Tests.{refused_for, verdict_of};
 ghost use Rattle.array.specs.Map.{dead_mark, faulty_mark, inner_faulty, allowed_at, marks_test, map_tests};
 
-// The refusal of a call: the documents' number, the place and the second place.
-#[derive(Clone, Copy)]
+mod map;
+
+pub use map::{Map, Shape};
+
+// Why a call is refused. The values are the documents' numbers.
+#[derive(Clone, Copy, Debug, PartialEq, Eq)]
+pub enum Reason {
+    // of no call
+    Unknown = 0,
+    Size = 1,
+    BufferLength = 2,
+    Mark = 3,
+    Direction = 4,
+    NotOpen = 5,
+    Meeting = 6,
+    NearMiss = 7,
+    FileEnds = 8,
+    NumberForm = 9,
+    RecordPlace = 10,
+    Repeated = 11,
+    Trailing = 12,
+    RecordDirection = 13,
+    Room = 14,
+    NoSuchLink = 15,
+    SwitchByte = 16,
+    TrackEnds = 17,
+    FourthSwitch = 18,
+    RecordOrder = 19,
+    DeadPlace = 20,
+    Trials = 21,
+    NothingNew = 22,
+    InUseOrDead = 23,
+    NoDirection = 24,
+}
+
+// The refusal of a call: why, the place and the second place.
+#[derive(Clone, Copy, Debug, PartialEq, Eq)]
 pub struct Refusal {
-    pub number: u8,
+    pub reason: Reason,
     pub place: usize,
     pub second: usize,
 }
 
-// What the tests of a call's arguments say.
-#[derive(Clone, Copy)]
-pub enum Verdict {
-    Accepted,
-    Refused(Refusal),
+impl Refusal {
+    // A refusal with one place.
+    pub fn at(reason: Reason, place: usize) -> Self
+        ensures { result ≡ refused_for reason place 0 }
+    {
+        Refusal {
+            reason,
+            place,
+            second: 0,
+        }
+    }
+
+    // The documents' number.
+    pub fn number(self) -> u8
+        ensures { result ≡ number_of self.reason }
+    {
+        self.reason as u8
+    }
 }
+
+// What the tests of a call's arguments say.
+pub type Verdict = Result<(), Refusal>;
 
 // The functions of this crate are inner parts of the operations; some have a `requires`.
 
@@ -89,6 +142,7 @@ pub fn is_dead(mark: u8) -> bool
 }
 
 // Whether a mark counts as faulty.
+#[tactic(auto, unfolding(crate::specs::Map::faulty_mark))]
 pub fn is_faulty(mark: u8) -> bool
     ensures { result ≡ faulty_mark mark }
 {
@@ -117,43 +171,35 @@ fn is_allowed(n: usize, m: usize, x: usize, y: usize, mark: u8) -> bool
 }
 
 // Test 3, row by row, so that the compiler can test once for a row what depends on the row alone.
-fn check_marks(n: usize, m: usize, grid: &[u8]) -> Verdict
-    requires { (n ≤ 30) × (m ≤ 30) × (length grid.now ≡ 1024) }
-    ensures { result ≡ marks_test n m grid.now }
+fn check_marks(map: &Map) -> Verdict
+    ensures { result ≡ marks_test map.now.shape.rows map.now.shape.columns map.now.grid.now }
 {
+    let Shape { rows, columns } = map.shape;
     for x in 0..32 {
         for y in 0..32 {
             let p = 32 * x + y;
-            if !is_allowed(n, m, x, y, grid[p]) {
-                return Verdict::Refused(Refusal {
-                    number: 3,
-                    place: p,
-                    second: 0,
-                });
+            if !is_allowed(rows, columns, x, y, map.grid[p]) {
+                return Err(Refusal::at(Reason::Mark, p));
             }
         }
     }
-    Verdict::Accepted
+    Ok(())
 }
 
-// Tests 1 to 3, where `right` says that every lent buffer has 1,024 elements, the grid among them.
-pub fn check_map(n: usize, m: usize, right: bool, grid: &[u8]) -> Verdict
+// Tests 1 to 3, where `right` says that every lent buffer has 1,024 elements, the grid among them: the map that passes them.
+#[tactic(auto, unfolding(crate::specs::Map::map_tests))]
+pub fn check_map<'a>(n: usize, m: usize, right: bool, grid: &'a [u8]) -> Result<Map<'a>, Refusal>
     requires { right ≡ true → length grid.now ≡ 1024 }
-    ensures { result ≡ map_tests n m right grid.now }
+    ensures tests { verdict_of result ≡ map_tests n m right grid.now }
+    ensures map { IfOk result (λ map. (map.shape.rows ≡ n) × (map.shape.columns ≡ m) × (map.grid.now ≡ grid.now)) }
 {
     if !(is_size(n) & is_size(m)) {
-        return Verdict::Refused(Refusal {
-            number: 1,
-            place: 0,
-            second: 0,
-        });
+        return Err(Refusal::at(Reason::Size, 0));
     }
     if !right {
-        return Verdict::Refused(Refusal {
-            number: 2,
-            place: 0,
-            second: 0,
-        });
+        return Err(Refusal::at(Reason::BufferLength, 0));
     }
-    check_marks(n, m, grid)
+    let map = Map::new(n, m, grid);
+    check_marks(&map)?;
+    Ok(map)
 }

@@ -4,7 +4,7 @@ use Prim.Native.Nat.{ℕ}
 use mathlib.Core.Path.{◌≡◌, ap, ◌∙◌, subst}
 use mathlib.Core.List.{List}
 use Rattle.array.specs.Tests.{Told, LosesNothing, told}
-use Rattle.array.specs.declared.Verdict.{Verdict}
+use Rattle.array.specs.Tests.{Verdict}
 use Rattle.array.proofs.Answers.{verdict_kept}
 use Rattle.repair.specs.Demand3.{Given}
 use Rattle.repair.specs.declared.Answer.{Answer}

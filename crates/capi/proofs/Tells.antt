@@ -1,5 +1,7 @@
 -- The flat structs lose nothing of the answers.
 -- Assumes nothing.
+use Rattle.array.specs.Reason.{number_of}
+use Rattle.std.specs.Prelude.{Ok, Err}
 use Prim.Native.Nat.{ℕ}
 use mathlib.Core.Path.{◌≡◌, refl}
 use mathlib.Core.Bool.{cond}
@@ -8,8 +10,7 @@ use native.Mathlib.Omega.{arith}
 use borrow.Author.Tests.{ne_eqb}
 use Rattle.array.specs.Tests.{refuses_as, Numbered}
 use Rattle.array.specs.declared.Refusal.{Refusal}
-use Rattle.array.specs.declared.Verdict.{Verdict}
-use Rattle.array.specs.declared.Verdict.TheVariants.{Accepted}
+use Rattle.array.specs.Tests.{Verdict}
 use Rattle.array.proofs.Numbered.{map_numbered}
 use Rattle.plans.proofs.Numbered.{plan_numbered}
 use Rattle.lists.proofs.Numbered.{fault_list_numbered}
@@ -20,7 +21,7 @@ use Rattle.trials.specs.declared.Outcome.TheVariants.{Repaired, Beyond, Spent}
 use Rattle.exact.specs.Exact.{decided}
 use Rattle.exact.specs.declared.Decision.{Decision}
 use Rattle.exact.specs.declared.Decision.TheVariants as decision
-use Rattle.track.specs.declared.Followed.{Followed}
+use Rattle.track.specs.Follower.{Followed}
 use Rattle.repair.specs.Operations.{is_repaired, place_cells, route_switches}
 use Rattle.repair.specs.Demand3.{Given, answer, planned_directions}
 use Rattle.repair.specs.declared.Planner.{Planner}
@@ -29,12 +30,8 @@ use Rattle.repair.specs.declared.Answer.{Answer}
 use Rattle.repair.proofs.Numbered.{plan_numbered_by, follow_link_numbered}
 use Rattle.runs.specs.Run.{run_test, run_answer, run_links, links_found}
 use Rattle.formats.specs.declared.Kind.TheVariants.{Map, Plan}
-use Rattle.formats.specs.declared.Number.{Number}
 use Rattle.formats.proofs.Numbered.{number_numbered}
-use Rattle.readers.specs.declared.FileRead.{FileRead}
-use Rattle.readers.specs.declared.MapRead.{MapRead}
 use Rattle.readers.proofs.Numbered.{file_numbered}
-use Rattle.writers.specs.declared.FileWritten.{FileWritten}
 use Rattle.writers.proofs.Numbered.{write_numbered, text_numbered}
 use Rattle.listing.specs.Listing.{listing}
 use Rattle.sessions.specs.declared.Session.{Session}
@@ -46,31 +43,28 @@ use Rattle.capi.specs.Flat.{flat_number, flat_head, flat_plan_head, flat_length}
 use Rattle.capi.specs.Tells.{by_number, verdict_tells, link_tells, number_tells, head_tells, plan_head_tells, length_tells}
 use Rattle.capi.specs.Tells.{plan_tells, started_tells, preview_tells, Kept, AnswerKept, NothingLost}
 use Rattle.array.specs.Tests as tests
-use Rattle.array.specs.declared.Verdict.TheVariants as verdict
 use Rattle.track.specs.Follower as links
-use Rattle.track.specs.declared.Followed.TheVariants as follow
 use Rattle.repair.specs.Operations as operations
 use Rattle.repair.specs.declared.Answer.TheVariants as answers
 use Rattle.formats.specs.Number as numbers
-use Rattle.formats.specs.declared.Number.TheVariants as number
 use Rattle.readers.specs.Reading as readers
-use Rattle.readers.specs.declared.FileRead.TheVariants as reader
-use Rattle.readers.specs.declared.MapRead.TheVariants as map
 use Rattle.readers.proofs.Numbered as read
 use Rattle.writers.specs.Writing as writers
-use Rattle.writers.specs.declared.FileWritten.TheVariants as writer
+use Rattle.formats.specs.Number.{Number}
+use Rattle.readers.specs.Reading.{FileRead, MapRead}
+use Rattle.writers.specs.Writing.{FileWritten}
 
 -- a number from 1 on tells a refusal
 refused : (r : Refusal) (values : List ℕ) → Numbered (refuses_as r)
-    → by_number r.number r.place r.second values ≡ refuses_as r
-refused r values h = rw (ne_eqb r.number 0 (λ e. omega arith))
+    → by_number (number_of r.reason) r.place r.second values ≡ refuses_as r
+refused r values h = rw (ne_eqb (number_of r.reason) 0 (λ e. omega arith))
 
 -- ANSWERS, BY SHAPE
 
 verdict_kept : (v : Verdict) → Numbered (tests.told v) → Kept tests.told flat_verdict verdict_tells v
 unfolding flat_verdict
-verdict_kept Accepted h = record { numbered = h; same = refl }
-verdict_kept (verdict.Refused r) h = record { numbered = h; same = refused r [] h }
+verdict_kept (Ok tt) h = record { numbered = h; same = refl }
+verdict_kept (Err r) h = record { numbered = h; same = refused r [] h }
 
 -- beside any session
 started_kept : (v : Verdict) (s : Session) → Numbered (tests.told v)
@@ -109,8 +103,8 @@ refused_same pl r k h = refused r _ h
 after_same : (pl : Planner) (v : Verdict) (a : Answer) (k : ℕ) → Numbered (tests.told v)
     → plan_tells pl (flat_answer a k) ≡ operations.told a
     → plan_tells pl (flat_answer (operations.answer_after v a) k) ≡ operations.told (operations.answer_after v a)
-after_same pl Accepted a k h e = e
-after_same pl (verdict.Refused r) a k h e = refused_same pl r k h
+after_same pl (Ok tt) a k h e = e
+after_same pl (Err r) a k h e = refused_same pl r k h
 
 planner_same : (pl : Planner) (n m : ℕ) (grid directions : List ℕ) (limit k : ℕ)
     → plan_tells pl (flat_answer (operations.plan_by pl n m grid directions limit) k)
@@ -122,28 +116,28 @@ planner_same pl n m grid directions limit k =
 
 link_kept : (f : Followed) → Numbered (links.told f) → Kept links.told flat_link link_tells f
 unfolding flat_link
-link_kept (follow.Entered l) h = record { numbered = h; same = refl }
-link_kept (follow.Refused r) h = record { numbered = h; same = refused r (0 ∷ 0 ∷ 0 ∷ []) h }
+link_kept (Ok l) h = record { numbered = h; same = refl }
+link_kept (Err r) h = record { numbered = h; same = refused r (0 ∷ 0 ∷ 0 ∷ []) h }
 
 number_kept : (a : Number) → Numbered (numbers.told a) → Kept numbers.told flat_number number_tells a
 unfolding flat_number
-number_kept (number.Read v next) h = record { numbered = h; same = refl }
-number_kept (number.Refused r) h = record { numbered = h; same = refused r (0 ∷ 0 ∷ []) h }
+number_kept (Ok (v, next)) h = record { numbered = h; same = refl }
+number_kept (Err r) h = record { numbered = h; same = refused r (0 ∷ 0 ∷ []) h }
 
 head_kept : (a : MapRead) → Numbered (readers.told_map a) → Kept readers.told_map flat_head head_tells a
 unfolding flat_head
-head_kept (map.File head) h = record { numbered = h; same = refl }
-head_kept (map.Refused r) h = record { numbered = h; same = refused r (0 ∷ 0 ∷ 0 ∷ []) h }
+head_kept (Ok head) h = record { numbered = h; same = refl }
+head_kept (Err r) h = record { numbered = h; same = refused r (0 ∷ 0 ∷ 0 ∷ []) h }
 
 plan_head_kept : (a : FileRead) → Numbered (readers.told a) → Kept readers.told flat_plan_head plan_head_tells a
 unfolding flat_plan_head
-plan_head_kept (reader.File head t) h = record { numbered = h; same = refl }
-plan_head_kept (reader.Refused r) h = record { numbered = h; same = refused r (0 ∷ 0 ∷ 0 ∷ 0 ∷ []) h }
+plan_head_kept (Ok (head, t)) h = record { numbered = h; same = refl }
+plan_head_kept (Err r) h = record { numbered = h; same = refused r (0 ∷ 0 ∷ 0 ∷ 0 ∷ []) h }
 
 length_kept : (a : FileWritten) → Numbered (writers.told a) → Kept writers.told flat_length length_tells a
 unfolding flat_length
-length_kept (writer.Length k) h = record { numbered = h; same = refl }
-length_kept (writer.Refused r) h = record { numbered = h; same = refused r (0 ∷ []) h }
+length_kept (Ok k) h = record { numbered = h; same = refl }
+length_kept (Err r) h = record { numbered = h; same = refused r (0 ∷ []) h }
 
 -- OPERATIONS
 
@@ -159,8 +153,8 @@ switches_kept n m grid directions across down = verdict_kept _ (plan_numbered n 
 
 after_numbered : (v : Verdict) (a : Answer) → Numbered (tests.told v) → Numbered (operations.told a)
     → Numbered (operations.told (operations.answer_after v a))
-after_numbered (verdict.Refused r) a h n = h
-after_numbered Accepted a h n = n
+after_numbered (Err r) a h n = h
+after_numbered (Ok tt) a h n = n
 
 run_kept : (g : Given) → AnswerKept g.planner (run_links g) (run_answer g)
 unfolding run_answer

@@ -1,22 +1,19 @@
 -- The answers as flat structs, which C can hold: number 0 and the values of an accepted call, or the refusal with 0 for every value.
 -- Assumes nothing.
-use Rattle.std.specs.Prelude.{ℕ, ◌≡◌, List}
-use Rattle.array.specs.declared.Verdict.{Verdict}
+use Rattle.std.specs.Prelude.{ℕ, ◌≡◌, List, Ok, Err}
+use Rattle.array.specs.Tests.{Verdict}
 use Rattle.trials.specs.declared.Outcome.{Outcome}
 use Rattle.trials.specs.declared.Outcome.TheVariants.{Repaired, Beyond, Spent}
 use Rattle.exact.specs.declared.Decision.{Decision}
 use Rattle.exact.specs.declared.Decision.TheVariants as decision
-use Rattle.track.specs.declared.Followed.{Followed}
+use Rattle.track.specs.Follower.{Followed}
 use Rattle.repair.specs.declared.Answer.{Answer}
 use Rattle.repair.specs.Demand3.{Given}
 use Rattle.runs.specs.Run.{run_answer, run_links, RanAs}
 use Rattle.runs.specs.declared.Ran.{Ran}
-use Rattle.formats.specs.declared.Number.{Number}
-use Rattle.readers.specs.declared.FileRead.{FileRead}
-use Rattle.readers.specs.declared.MapRead.{MapRead}
-use Rattle.writers.specs.declared.FileWritten.{FileWritten}
 use Rattle.sessions.specs.declared.Session.{Session}
 use Rattle.previews.specs.declared.Foretold.{Foretold}
+use Rattle.array.specs.Reason.{number_of}
 use Rattle.capi.specs.declared.ChantspruceVerdict.{ChantspruceVerdict}
 use Rattle.capi.specs.declared.ChantspruceStarted.{ChantspruceStarted}
 use Rattle.capi.specs.declared.ChantsprucePreview.{ChantsprucePreview}
@@ -26,17 +23,14 @@ use Rattle.capi.specs.declared.ChantspruceNumber.{ChantspruceNumber}
 use Rattle.capi.specs.declared.ChantspruceHead.{ChantspruceHead}
 use Rattle.capi.specs.declared.ChantsprucePlanHead.{ChantsprucePlanHead}
 use Rattle.capi.specs.declared.ChantspruceLength.{ChantspruceLength}
-use Rattle.array.specs.declared.Verdict.TheVariants as verdict
-use Rattle.track.specs.declared.Followed.TheVariants as follow
 use Rattle.repair.specs.declared.Answer.TheVariants as answer
-use Rattle.formats.specs.declared.Number.TheVariants as numbers
-use Rattle.readers.specs.declared.FileRead.TheVariants as reader
-use Rattle.readers.specs.declared.MapRead.TheVariants as map
-use Rattle.writers.specs.declared.FileWritten.TheVariants as writer
+use Rattle.formats.specs.Number.{Number}
+use Rattle.readers.specs.Reading.{FileRead, MapRead}
+use Rattle.writers.specs.Writing.{FileWritten}
 
 unfoldable pub flat_verdict : Verdict → ChantspruceVerdict
-flat_verdict verdict.Accepted = record { number = 0; place = 0; second = 0 }
-flat_verdict (verdict.Refused r) = record { number = r.number; place = r.place; second = r.second }
+flat_verdict (Ok tt) = record { number = 0; place = 0; second = 0 }
+flat_verdict (Err r) = record { number = number_of r.reason; place = r.place; second = r.second }
 
 -- T-07. An answer with a session beside it.
 abbrev pub with_session : ChantspruceVerdict → Session → ChantspruceStarted
@@ -83,7 +77,7 @@ unfoldable pub flat_answer : Answer → ℕ → ChantsprucePlan
 flat_answer (answer.Planned o) links = flat_outcome o links
 flat_answer (answer.Decided d) links = flat_decision d links
 flat_answer (answer.Refused r) links =
-    record { number = r.number; place = r.place; second = r.second; outcome = 0; count = 0; links = 0 }
+    record { number = number_of r.reason; place = r.place; second = r.second; outcome = 0; count = 0; links = 0 }
 
 -- what a run answers
 abbrev pub run_of : Given → Ran
@@ -98,30 +92,30 @@ RanFlat g r directions places across down =
     (r ≡ flat_run (run_of g)) × RanAs g (run_of g) directions places across down
 
 unfoldable pub flat_link : Followed → ChantspruceLink
-flat_link (follow.Entered l) =
+flat_link (Ok l) =
     record { number = 0; place = 0; second = 0; position = l.position; port = l.port; switches = l.switches }
-flat_link (follow.Refused r) =
-    record { number = r.number; place = r.place; second = r.second; position = 0; port = 0; switches = 0 }
+flat_link (Err r) =
+    record { number = number_of r.reason; place = r.place; second = r.second; position = 0; port = 0; switches = 0 }
 
 unfoldable pub flat_number : Number → ChantspruceNumber
-flat_number (numbers.Read v next) = record { number = 0; place = 0; second = 0; value = v; next = next }
-flat_number (numbers.Refused r) =
-    record { number = r.number; place = r.place; second = r.second; value = 0; next = 0 }
+flat_number (Ok (v, next)) = record { number = 0; place = 0; second = 0; value = v; next = next }
+flat_number (Err r) =
+    record { number = number_of r.reason; place = r.place; second = r.second; value = 0; next = 0 }
 
 unfoldable pub flat_head : MapRead → ChantspruceHead
-flat_head (map.File h) =
+flat_head (Ok h) =
     record { number = 0; place = 0; second = 0; rows = h.rows; columns = h.columns; count = h.count }
-flat_head (map.Refused r) =
-    record { number = r.number; place = r.place; second = r.second; rows = 0; columns = 0; count = 0 }
+flat_head (Err r) =
+    record { number = number_of r.reason; place = r.place; second = r.second; rows = 0; columns = 0; count = 0 }
 
 -- T-06. Of a plan, with T.
 unfoldable pub flat_plan_head : FileRead → ChantsprucePlanHead
-flat_plan_head (reader.File h t) =
+flat_plan_head (Ok (h, t)) =
     record { number = 0; place = 0; second = 0; rows = h.rows; columns = h.columns; count = h.count; trials = t }
-flat_plan_head (reader.Refused r) =
-    record { number = r.number; place = r.place; second = r.second; rows = 0; columns = 0; count = 0; trials = 0 }
+flat_plan_head (Err r) =
+    record { number = number_of r.reason; place = r.place; second = r.second; rows = 0; columns = 0; count = 0; trials = 0 }
 
 unfoldable pub flat_length : FileWritten → ChantspruceLength
-flat_length (writer.Length k) = record { number = 0; place = 0; second = 0; length = k }
-flat_length (writer.Refused r) =
-    record { number = r.number; place = r.place; second = r.second; length = 0 }
+flat_length (Ok k) = record { number = 0; place = 0; second = 0; length = k }
+flat_length (Err r) =
+    record { number = number_of r.reason; place = r.place; second = r.second; length = 0 }

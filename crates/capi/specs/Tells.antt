@@ -31,7 +31,7 @@ use Rattle.capi.specs.declared.ChantspruceNumber.{ChantspruceNumber}
 use Rattle.capi.specs.declared.ChantspruceHead.{ChantspruceHead}
 use Rattle.capi.specs.declared.ChantsprucePlanHead.{ChantsprucePlanHead}
 use Rattle.capi.specs.declared.ChantspruceLength.{ChantspruceLength}
-use Rattle.array.specs.declared.Verdict.{Verdict}
+use Rattle.array.specs.Tests.{Verdict}
 use Rattle.array.specs.Tests as tests
 use Rattle.track.specs.Follower as links
 use Rattle.repair.specs.Operations as operations

@@ -18,26 +18,26 @@ ghost use Rattle.listing.specs.Listing.{reported};
 ghost use Rattle.sessions.specs.Session.{session_started, report_test, session_reported};
 ghost use Rattle.previews.specs.Preview.{foretold};
 ghost use Rattle.capi.specs.Flat.{flat_verdict, flat_started, flat_preview, planned_as};
-ghost use Rattle.capi.specs.Flat.{flat_outcome, flat_decision, flat_answer, RanFlat, flat_link};
+ghost use Rattle.capi.specs.Flat.{flat_outcome, flat_answer, flat_run, RanFlat, flat_link};
 ghost use Rattle.capi.specs.Flat.{flat_number, flat_head, flat_plan_head, flat_length};
 
-use array::Verdict;
+use array::{Refusal, Verdict};
 use exact::Decision;
-use formats::Number;
 use plans::Fault;
-use readers::{FileRead, MapRead};
+use previews::{Foretold, Previewed};
+use readers::Head;
 use repair::{Answer, Planner};
+use runs::Ran;
 use sessions::Session;
 use track::Followed;
 use trials::Outcome;
-use writers::FileWritten;
 
 // Every struct begins with `number` (0 where the call is accepted, else the number of the refusal), `place` and `second`. The values
 // after them are 0 where the call is refused.
 
 // The plan check, placement, routing and reports.
 #[repr(C)]
-#[derive(Clone, Copy)]
+#[derive(Clone, Copy, Default)]
 pub struct ChantspruceVerdict {
     pub number: u32,
     pub place: usize,
@@ -71,7 +71,7 @@ pub struct ChantsprucePreview {
 // The planners and the runs. `outcome` is 1 repaired, 2 beyond repair, 3 spent; `count` the trials, or the limit where it is
 // spent, and 0 from the exact planner, which counts none; `links` how many links a run found to reach their neighbour.
 #[repr(C)]
-#[derive(Clone, Copy)]
+#[derive(Clone, Copy, Default)]
 pub struct ChantsprucePlan {
     pub number: u32,
     pub place: usize,
@@ -83,7 +83,7 @@ pub struct ChantsprucePlan {
 
 // The follower: the position entered, the port (W, E, N, S are 0 to 3), and the switches passed.
 #[repr(C)]
-#[derive(Clone, Copy)]
+#[derive(Clone, Copy, Default)]
 pub struct ChantspruceLink {
     pub number: u32,
     pub place: usize,
@@ -95,7 +95,7 @@ pub struct ChantspruceLink {
 
 // The number reader: the value, and the offset after it.
 #[repr(C)]
-#[derive(Clone, Copy)]
+#[derive(Clone, Copy, Default)]
 pub struct ChantspruceNumber {
     pub number: u32,
     pub place: usize,
@@ -106,7 +106,7 @@ pub struct ChantspruceNumber {
 
 // The map reader: N, M and the count of records.
 #[repr(C)]
-#[derive(Clone, Copy)]
+#[derive(Clone, Copy, Default)]
 pub struct ChantspruceHead {
     pub number: u32,
     pub place: usize,
@@ -118,7 +118,7 @@ pub struct ChantspruceHead {
 
 // The plan reader: the same and T, the trials on record.
 #[repr(C)]
-#[derive(Clone, Copy)]
+#[derive(Clone, Copy, Default)]
 pub struct ChantsprucePlanHead {
     pub number: u32,
     pub place: usize,
@@ -131,7 +131,7 @@ pub struct ChantsprucePlanHead {
 
 // The file writers and the listing: the length written.
 #[repr(C)]
-#[derive(Clone, Copy)]
+#[derive(Clone, Copy, Default)]
 pub struct ChantspruceLength {
     pub number: u32,
     pub place: usize,
@@ -139,38 +139,38 @@ pub struct ChantspruceLength {
     pub length: usize,
 }
 
-// Inner parts: the answers as flat structs.
+// The answers as flat structs.
 
-fn flat_verdict(v: Verdict) -> ChantspruceVerdict
-    ensures { result ≡ flat_verdict v }
-{
-    match v {
-        Verdict::Accepted => ChantspruceVerdict {
-            number: 0,
-            place: 0,
-            second: 0,
-        },
-        Verdict::Refused(e) => ChantspruceVerdict {
-            number: e.number as u32,
-            place: e.place,
-            second: e.second,
-        },
+impl From<Verdict> for ChantspruceVerdict {
+    ghost from_gives = { λ v r. r ≡ flat_verdict v };
+
+    #[tactic(auto, unfolding(crate::specs::Flat::flat_verdict))]
+    fn from(answer: Verdict) -> Self {
+        match answer {
+            Ok(()) => Self::default(),
+            Err(refusal) => Self {
+                number: u32::from(refusal.number()),
+                place: refusal.place,
+                second: refusal.second,
+            },
+        }
     }
 }
 
+// Inner part: an outcome by its kind and the count that it carries.
 fn planned(outcome: u32, count: u32, links: usize) -> ChantsprucePlan
     ensures { result ≡ planned_as outcome count links }
 {
     ChantsprucePlan {
-        number: 0,
-        place: 0,
-        second: 0,
         outcome,
         count,
         links,
+        ..Default::default()
     }
 }
 
+// Inner part: 1 repaired, 2 beyond repair, 3 spent.
+#[tactic(auto, unfolding(crate::specs::Flat::flat_outcome))]
 fn flat_outcome(o: Outcome, links: usize) -> ChantsprucePlan
     ensures { result ≡ flat_outcome o links }
 {
@@ -181,140 +181,130 @@ fn flat_outcome(o: Outcome, links: usize) -> ChantsprucePlan
     }
 }
 
-fn flat_decision(d: Decision, links: usize) -> ChantsprucePlan
-    ensures { result ≡ flat_decision d links }
-{
-    match d {
-        Decision::Repaired => planned(1, 0, links),
-        Decision::Beyond => planned(2, 0, links),
+impl From<Ran> for ChantsprucePlan {
+    ghost from_gives = { λ ran r. r ≡ flat_run ran };
+
+    #[tactic(auto, unfolding(crate::specs::Flat::flat_answer, crate::specs::Flat::flat_decision))]
+    fn from(ran: Ran) -> Self {
+        match ran.answer {
+            Answer::Planned(outcome) => flat_outcome(outcome, ran.links),
+            Answer::Decided(Decision::Repaired) => planned(1, 0, ran.links),
+            Answer::Decided(Decision::Beyond) => planned(2, 0, ran.links),
+            Answer::Refused(refusal) => Self {
+                number: u32::from(refusal.number()),
+                place: refusal.place,
+                second: refusal.second,
+                ..Default::default()
+            },
+        }
     }
 }
 
-fn flat_answer(a: Answer, links: usize) -> ChantsprucePlan
-    ensures { result ≡ flat_answer a links }
-{
-    match a {
-        Answer::Planned(o) => flat_outcome(o, links),
-        Answer::Decided(d) => flat_decision(d, links),
-        Answer::Refused(e) => ChantsprucePlan {
-            number: e.number as u32,
-            place: e.place,
-            second: e.second,
-            outcome: 0,
-            count: 0,
-            links: 0,
-        },
+impl From<Followed> for ChantspruceLink {
+    ghost from_gives = { λ f r. r ≡ flat_link f };
+
+    #[tactic(auto, unfolding(crate::specs::Flat::flat_link))]
+    fn from(answer: Followed) -> Self {
+        match answer {
+            Ok(landing) => Self {
+                position: landing.position,
+                port: u32::from(landing.port),
+                switches: u32::from(landing.switches),
+                ..Default::default()
+            },
+            Err(refusal) => Self {
+                number: u32::from(refusal.number()),
+                place: refusal.place,
+                second: refusal.second,
+                ..Default::default()
+            },
+        }
     }
 }
 
-fn flat_link(f: Followed) -> ChantspruceLink
-    ensures { result ≡ flat_link f }
-{
-    match f {
-        Followed::Entered(l) => ChantspruceLink {
-            number: 0,
-            place: 0,
-            second: 0,
-            position: l.position,
-            port: l.port as u32,
-            switches: l.switches as u32,
-        },
-        Followed::Refused(e) => ChantspruceLink {
-            number: e.number as u32,
-            place: e.place,
-            second: e.second,
-            position: 0,
-            port: 0,
-            switches: 0,
-        },
+impl From<Result<(u32, usize), Refusal>> for ChantspruceNumber {
+    ghost from_gives = { λ a r. r ≡ flat_number a };
+
+    #[tactic(auto, unfolding(crate::specs::Flat::flat_number))]
+    fn from(answer: Result<(u32, usize), Refusal>) -> Self {
+        match answer {
+            Ok((value, next)) => Self {
+                value,
+                next,
+                ..Default::default()
+            },
+            Err(refusal) => Self {
+                number: u32::from(refusal.number()),
+                place: refusal.place,
+                second: refusal.second,
+                ..Default::default()
+            },
+        }
     }
 }
 
-fn flat_number(a: Number) -> ChantspruceNumber
-    ensures { result ≡ flat_number a }
-{
-    match a {
-        Number::Read(value, next) => ChantspruceNumber {
-            number: 0,
-            place: 0,
-            second: 0,
-            value,
-            next,
-        },
-        Number::Refused(e) => ChantspruceNumber {
-            number: e.number as u32,
-            place: e.place,
-            second: e.second,
-            value: 0,
-            next: 0,
-        },
+impl From<Result<Head, Refusal>> for ChantspruceHead {
+    ghost from_gives = { λ a r. r ≡ flat_head a };
+
+    #[tactic(auto, unfolding(crate::specs::Flat::flat_head))]
+    fn from(answer: Result<Head, Refusal>) -> Self {
+        match answer {
+            Ok(head) => Self {
+                rows: head.rows,
+                columns: head.columns,
+                count: head.count,
+                ..Default::default()
+            },
+            Err(refusal) => Self {
+                number: u32::from(refusal.number()),
+                place: refusal.place,
+                second: refusal.second,
+                ..Default::default()
+            },
+        }
     }
 }
 
-fn flat_head(a: MapRead) -> ChantspruceHead
-    ensures { result ≡ flat_head a }
-{
-    match a {
-        MapRead::File(h) => ChantspruceHead {
-            number: 0,
-            place: 0,
-            second: 0,
-            rows: h.rows,
-            columns: h.columns,
-            count: h.count,
-        },
-        MapRead::Refused(e) => ChantspruceHead {
-            number: e.number as u32,
-            place: e.place,
-            second: e.second,
-            rows: 0,
-            columns: 0,
-            count: 0,
-        },
+impl From<Result<(Head, u32), Refusal>> for ChantsprucePlanHead {
+    ghost from_gives = { λ a r. r ≡ flat_plan_head a };
+
+    #[tactic(auto, unfolding(crate::specs::Flat::flat_plan_head))]
+    fn from(answer: Result<(Head, u32), Refusal>) -> Self {
+        match answer {
+            Ok((head, trials)) => Self {
+                rows: head.rows,
+                columns: head.columns,
+                count: head.count,
+                trials,
+                ..Default::default()
+            },
+            Err(refusal) => Self {
+                number: u32::from(refusal.number()),
+                place: refusal.place,
+                second: refusal.second,
+                ..Default::default()
+            },
+        }
     }
 }
 
-fn flat_plan_head(a: FileRead) -> ChantsprucePlanHead
-    ensures { result ≡ flat_plan_head a }
-{
-    match a {
-        FileRead::File(h, trials) => ChantsprucePlanHead {
-            number: 0,
-            place: 0,
-            second: 0,
-            rows: h.rows,
-            columns: h.columns,
-            count: h.count,
-            trials,
-        },
-        FileRead::Refused(e) => ChantsprucePlanHead {
-            number: e.number as u32,
-            place: e.place,
-            second: e.second,
-            rows: 0,
-            columns: 0,
-            count: 0,
-            trials: 0,
-        },
-    }
-}
+impl From<Result<usize, Refusal>> for ChantspruceLength {
+    ghost from_gives = { λ a r. r ≡ flat_length a };
 
-fn flat_length(a: FileWritten) -> ChantspruceLength
-    ensures { result ≡ flat_length a }
-{
-    match a {
-        FileWritten::Length(length) => ChantspruceLength {
-            number: 0,
-            place: 0,
-            second: 0,
-            length,
-        },
-        FileWritten::Refused(e) => ChantspruceLength {
-            number: e.number as u32,
-            place: e.place,
-            second: e.second,
-            length: 0,
-        },
+    #[tactic(auto, unfolding(crate::specs::Flat::flat_length))]
+    fn from(answer: Result<usize, Refusal>) -> Self {
+        match answer {
+            Ok(length) => Self {
+                length,
+                ..Default::default()
+            },
+            Err(refusal) => Self {
+                number: u32::from(refusal.number()),
+                place: refusal.place,
+                second: refusal.second,
+                ..Default::default()
+            },
+        }
     }
 }
 
@@ -332,7 +322,8 @@ fn plan_by(
     ensures buffer { directions.new
         ≡ directions_by planner n m grid.now directions.old limit }
 {
-    flat_answer(repair::plan_by(planner, n, m, grid, directions, limit), 0)
+    let answer = repair::plan_by(planner, n, m, grid, directions, limit);
+    Ran { answer, links: 0 }.into()
 }
 
 fn run_by(
@@ -351,16 +342,14 @@ fn run_by(
         directions.old places.old across.old down.old)
         result directions.new places.new across.new down.new }
 {
-    let ran = runs::run_by(planner, n, m, grid, limit, directions, places, across, down);
-    let answer = ran.answer;
-    flat_answer(answer, ran.links)
+    runs::run_by(planner, n, m, grid, limit, directions, places, across, down).into()
 }
 
 fn report_by(planner: Planner, s: &[u8], out: &mut [u8]) -> ChantspruceLength
     ensures { (result ≡ flat_length (reported planner s.now out.old).0)
         × (out.new ≡ (reported planner s.now out.old).1) }
 {
-    flat_length(listing::report_by(planner, s, out))
+    listing::report_by(planner, s, out).into()
 }
 
 // The operations.
@@ -374,7 +363,7 @@ pub extern "C" fn chantspruce_check_plan(
 ) -> ChantspruceVerdict
     ensures { result ≡ flat_verdict (check_plan n m grid.now directions.now) }
 {
-    flat_verdict(plans::check_plan(n, m, grid, directions))
+    plans::check_plan(n, m, grid, directions).into()
 }
 
 #[unsafe(no_mangle)]
@@ -386,7 +375,7 @@ pub extern "C" fn chantspruce_check_fault_list(
 ) -> ChantspruceVerdict
     ensures { result ≡ flat_verdict (check_fault_list n m grid.now faults.now) }
 {
-    flat_verdict(lists::check_fault_list(n, m, grid, faults))
+    lists::check_fault_list(n, m, grid, faults).into()
 }
 
 #[unsafe(no_mangle)]
@@ -442,7 +431,7 @@ pub extern "C" fn chantspruce_place_cells(
     ensures verdict { result ≡ flat_verdict (place_cells n m grid.now directions.now places.old) }
     ensures buffer { places.new ≡ places_after n m grid.now directions.now places.old }
 {
-    flat_verdict(repair::place_cells(n, m, grid, directions, places))
+    repair::place_cells(n, m, grid, directions, places).into()
 }
 
 #[unsafe(no_mangle)]
@@ -457,7 +446,7 @@ pub extern "C" fn chantspruce_route_switches(
     ensures verdict { result ≡ flat_verdict (route_switches n m grid.now directions.now across.old down.old) }
     ensures buffers { (across.new ≡ across_after n m grid.now directions.now across.old down.old) × (down.new ≡ down_after n m grid.now directions.now across.old down.old) }
 {
-    flat_verdict(repair::route_switches(n, m, grid, directions, across, down))
+    repair::route_switches(n, m, grid, directions, across, down).into()
 }
 
 #[unsafe(no_mangle)]
@@ -473,7 +462,7 @@ pub extern "C" fn chantspruce_follow_link(
 ) -> ChantspruceLink
     ensures { result ≡ flat_link (follow_link (wafer n m grid.now directions.now across.now down.now) cell side) }
 {
-    flat_link(repair::follow_link(n, m, grid, directions, across, down, cell, side))
+    repair::follow_link(n, m, grid, directions, across, down, cell, side).into()
 }
 
 // The promise of a run, demand 3 with it, holds of the run's own result, which is returned flat.
@@ -567,14 +556,14 @@ pub extern "C" fn chantspruce_run_exactly(
 pub extern "C" fn chantspruce_read_number(s: &[u8], at: usize) -> ChantspruceNumber
     ensures { result ≡ flat_number (number_at s.now at) }
 {
-    flat_number(formats::read_number(s, at))
+    formats::read_number(s, at).into()
 }
 
 #[unsafe(no_mangle)]
 pub extern "C" fn chantspruce_read_map(s: &[u8], grid: &mut [u8]) -> ChantspruceHead
     ensures { (result ≡ flat_head (read_map s.now grid.old).0) × (grid.new ≡ (read_map s.now grid.old).1) }
 {
-    flat_head(readers::read_map(s, grid))
+    readers::read_map(s, grid).into()
 }
 
 #[unsafe(no_mangle)]
@@ -582,7 +571,7 @@ pub extern "C" fn chantspruce_read_plan(s: &[u8], directions: &mut [u8]) -> Chan
     ensures { (result ≡ flat_plan_head (read_plan s.now directions.old).0)
         × (directions.new ≡ (read_plan s.now directions.old).1) }
 {
-    flat_plan_head(readers::read_plan(s, directions))
+    readers::read_plan(s, directions).into()
 }
 
 #[unsafe(no_mangle)]
@@ -594,7 +583,7 @@ pub extern "C" fn chantspruce_write_map(
 ) -> ChantspruceLength
     ensures { (result ≡ flat_length (write_map n m grid.now out.old).0) × (out.new ≡ (write_map n m grid.now out.old).1) }
 {
-    flat_length(writers::write_map(n, m, grid, out))
+    writers::write_map(n, m, grid, out).into()
 }
 
 #[unsafe(no_mangle)]
@@ -608,7 +597,7 @@ pub extern "C" fn chantspruce_write_plan(
     ensures { (result ≡ flat_length (write_plan n m directions.now trials out.old).0)
         × (out.new ≡ (write_plan n m directions.now trials out.old).1) }
 {
-    flat_length(writers::write_plan(n, m, directions, trials, out))
+    writers::write_plan(n, m, directions, trials, out).into()
 }
 
 #[unsafe(no_mangle)]
@@ -645,15 +634,18 @@ pub extern "C" fn chantspruce_start_session(
     ensures { result ≡ flat_started (check_plan n m grid.now directions.now)
         (session_started n m grid.now directions.now) }
 {
-    let started = sessions::start_session(n, m, grid, directions);
-    let answer = started.answer;
-    let session = started.session;
-    let told = flat_verdict(answer);
+    let mut session = Session::none();
+    let answer = sessions::begin_session(n, m, grid, directions, &mut session);
+    let ChantspruceVerdict {
+        number,
+        place,
+        second,
+    } = answer.into();
     ChantspruceStarted {
-        number: told.number,
-        place: told.place,
-        second: told.second,
-        session: session,
+        number,
+        place,
+        second,
+        session,
     }
 }
 
@@ -680,30 +672,35 @@ pub extern "C" fn chantspruce_report_processor(
         position,
     );
     *s = r.session;
-    flat_verdict(r.answer)
+    r.answer.into()
 }
 
 // A preview of a session that is handed over by value, flat.
 fn flat_preview(s: Session, failing: bool, position: usize) -> ChantsprucePreview
     ensures { result ≡ flat_preview (report_test s failing position) (foretold s failing position) }
 {
-    let r = previews::preview(s, failing, position);
-    let answer = r.answer;
-    let f = r.foretold;
-    let flat = flat_verdict(answer);
-    let south = f.south;
-    let north = f.north;
-    let east = f.east;
-    let west = f.west;
+    let Previewed { answer, foretold } = previews::preview(s, failing, position);
+    let Foretold {
+        direction,
+        south,
+        north,
+        east,
+        west,
+    } = foretold;
+    let ChantspruceVerdict {
+        number,
+        place,
+        second,
+    } = answer.into();
     ChantsprucePreview {
-        number: flat.number,
-        place: flat.place,
-        second: flat.second,
-        direction: f.direction as u32,
-        south: south,
-        north: north,
-        east: east,
-        west: west,
+        number,
+        place,
+        second,
+        direction: u32::from(direction),
+        south,
+        north,
+        east,
+        west,
     }
 }
 

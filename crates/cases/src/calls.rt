@@ -1,39 +1,143 @@
-// The calls. Each lends the operation as many elements of its buffers as the setup says, and prints the answer.
-ghost use Rattle.io.specs.Counts.{IsPrefixLen};
-
-use crate::settings::Setup;
-use crate::show;
-use crate::show::Shown;
+// The calls. Each lends the operation as many elements of its buffers as the lines before it say, and prints the answer.
+use crate::buffers::Buffer;
+use crate::reports::{self, Report};
+use crate::settings::{BYTES, ELEMENTS, State};
+use crate::show::{self, Shown, Size};
 use array::{Refusal, Verdict};
 use exact::Decision;
-use formats::Number;
-use readers::{FileRead, Head, MapRead};
+use plans::Fault;
+use readers::Head;
 use repair::{Answer, Planner};
 use runs::Ran;
 use track::Followed;
 use trials::Outcome;
-use writers::FileWritten;
 
-// How many elements of a buffer are lent.
-pub fn lent(k: usize, s: &[u8]) -> usize
-    ensures { IsPrefixLen result s.now }
-{
-    if k < s.len() { k } else { s.len() }
+// A list of up to four faults.
+#[derive(Clone, Copy)]
+pub struct Faults {
+    list: [Fault; 4],
+    count: usize,
 }
 
-// How many elements of a placement are lent.
-fn lent_places(k: usize, s: &[u16]) -> usize
-    ensures { IsPrefixLen result s.now }
-{
-    if k < s.len() { k } else { s.len() }
+impl Faults {
+    // POSITION DIRECTION .., of which the last two must be such words; others that are none count as 0.
+    fn of(words: &[&[u8]]) -> Option<Self> {
+        let (pairs, rest) = words.as_chunks::<2>();
+        if !rest.is_empty() || 4 < pairs.len() {
+            return None;
+        }
+        if let Some([position, direction]) = pairs.last() {
+            words::number(position)?;
+            words::byte(direction)?;
+        }
+        Some(Faults {
+            list: std::array::from_fn(|i| fault(pairs.get(i))),
+            count: pairs.len(),
+        })
+    }
 }
 
-// Copies the first elements of a buffer.
-fn copy(to: &mut [u8], from: &[u8], count: usize) {
-    let mut i = 0;
-    while i < count {
-        words::put(to, i, words::get(from, i));
-        i += 1;
+// The fault that two words say.
+fn fault(words: Option<&[&[u8]; 2]>) -> Fault {
+    let [position, direction] = words.copied().unwrap_or_default();
+    Fault {
+        position: words::number(position).unwrap_or(0),
+        direction: words::byte(direction).unwrap_or(0),
+    }
+}
+
+// The calls, with what their lines give beside the buffers.
+#[derive(Clone, Copy)]
+pub enum Call {
+    Check,
+    Faults(Faults),
+    Plan(Planner, u32),
+    Place,
+    Route,
+    Follow(usize, usize),
+    Run(Planner, u32),
+    Number(usize),
+    List(Planner, usize),
+    ReadMap,
+    ReadPlan,
+    WriteMap(usize),
+    WritePlan(u32, usize),
+    Start,
+    Report(Report),
+    Preview(Option<Report>),
+}
+
+impl Call {
+    pub fn of(words: &[&[u8]]) -> Option<Self> {
+        Some(match words {
+            [b"check"] => Call::Check,
+            [b"faults", faults @ ..] => Call::Faults(Faults::of(faults)?),
+            [b"plan", how @ ..] => {
+                let (planner, limit) = planned(how)?;
+                Call::Plan(planner, limit)
+            }
+            [b"place"] => Call::Place,
+            [b"route"] => Call::Route,
+            [b"follow", cell, side] => Call::Follow(words::number(cell)?, words::number(side)?),
+            [b"run", how @ ..] => {
+                let (planner, limit) = planned(how)?;
+                Call::Run(planner, limit)
+            }
+            [b"number", at] => Call::Number(words::number(at)?),
+            [b"list", b"exactly", length] => Call::List(Planner::Exact, room(length)?),
+            [b"list", b"quickly", length] => Call::List(Planner::Quick, room(length)?),
+            [b"list", length] => Call::List(Planner::Trials, room(length)?),
+            [b"read", b"map"] => Call::ReadMap,
+            [b"read", b"plan"] => Call::ReadPlan,
+            [b"write", b"map", length] => Call::WriteMap(room(length)?),
+            [b"write", b"plan", trials, length] => Call::WritePlan(count(trials)?, room(length)?),
+            [b"start", ..] => Call::Start,
+            [b"report", report @ ..] => Call::Report(Report::of(report)?),
+            [b"preview", report @ ..] => Call::Preview(Report::of(report)),
+            _ => return None,
+        })
+    }
+}
+
+// The planner that the words of a call name, and its limit, which the exact one has not.
+fn planned(words: &[&[u8]]) -> Option<(Planner, u32)> {
+    match words {
+        [b"exactly"] => Some((Planner::Exact, 0)),
+        [b"quickly", limit] => Some((Planner::Quick, count(limit)?)),
+        [limit] => Some((Planner::Trials, count(limit)?)),
+        _ => None,
+    }
+}
+
+// A number of trials.
+fn count(word: &[u8]) -> Option<u32> {
+    u32::try_from(words::number(word)?).ok()
+}
+
+// The length of a file buffer to write to.
+fn room(word: &[u8]) -> Option<usize> {
+    words::number(word).filter(|k| *k <= BYTES)
+}
+
+// Makes the call of a line.
+pub fn make(call: Call, s: &mut State) {
+    match call {
+        Call::Check => check(s),
+        Call::Faults(faults) => check_faults(s, faults),
+        Call::Plan(planner, limit) => plan(s, planner, limit),
+        Call::Place => place(s),
+        Call::Route => route(s),
+        Call::Follow(cell, side) => follow(s, cell, side),
+        Call::Run(planner, limit) => run(s, planner, limit),
+        Call::Number(at) => number(s, at),
+        Call::List(planner, length) => list(s, planner, length),
+        Call::ReadMap => read_map(s),
+        Call::ReadPlan => read_plan(s),
+        Call::WriteMap(length) => write_map(s, length),
+        Call::WritePlan(trials, length) => write_plan(s, trials, length),
+        Call::Start => reports::make_start(s),
+        Call::Report(report) => reports::make_report(s, report),
+        Call::Preview(report) => reports::make_preview(s, report),
     }
 }
 
@@ -43,298 +147,193 @@ fn refuse(r: Refusal, kept: bool) {
     show::say_kept(kept);
 }
 
-pub fn check(s: Setup, grid: &[u8], directions: &[u8]) {
-    let g = lent(s.grid, grid);
-    let d = lent(s.directions, directions);
-    let v = plans::check_plan(s.n, s.m, &grid[..g], &directions[..d]);
-    show::say_verdict(v, b"accepted");
+fn check(s: &State) {
+    let Size { n, m } = s.size;
+    let v = plans::check_plan(n, m, s.grid.lent(), s.directions.lent());
+    show::say_verdict(v, "accepted");
+}
+
+fn check_faults(s: &State, faults: Faults) {
+    let Size { n, m } = s.size;
+    let listed = &faults.list[..faults.count.min(4)];
+    let v = lists::check_fault_list(n, m, s.grid.lent(), listed);
+    show::say_verdict(v, "accepted");
 }
 
 fn say_outcome(o: Outcome) {
-    match o {
-        Outcome::Repaired(t) => {
-            show::say(b"repaired");
-            show::say_number(t as usize);
-        }
-        Outcome::Beyond(t) => {
-            show::say(b"beyond");
-            show::say_number(t as usize);
-        }
-        Outcome::Spent(t) => {
-            show::say(b"spent");
-            show::say_number(t as usize);
-        }
-    }
+    let (name, trials) = match o {
+        Outcome::Repaired(t) => ("repaired", t),
+        Outcome::Beyond(t) => ("beyond", t),
+        Outcome::Spent(t) => ("spent", t),
+    };
+    show::say(name);
+    show::say_number(trials as usize);
 }
 
-fn say_decision(d: Decision) {
-    match d {
-        Decision::Repaired => show::say(b"repaired"),
-        Decision::Beyond => show::say(b"beyond"),
-    }
-}
-
-fn plan_into(s: Setup, planner: Planner, grid: &[u8], limit: u32, out: &mut [u8]) -> Answer {
-    let g = lent(s.grid, grid);
-    let d = lent(s.directions, out);
-    match planner {
-        Planner::Trials => repair::plan_repair(s.n, s.m, &grid[..g], &mut out[..d], limit),
-        Planner::Quick => repair::plan_quickly(s.n, s.m, &grid[..g], &mut out[..d], limit),
-        Planner::Exact => repair::plan_exactly(s.n, s.m, &grid[..g], &mut out[..d]),
-    }
-}
-
-// The directions that a planner wrote. They are those of the calls after it.
-fn say_directions(s: Setup, out: &[u8], directions: &mut [u8]) {
-    let d = lent(s.directions, out);
-    show::show(Shown::Directions, s.n, s.m, &out[..d]);
-    copy(directions, out, d);
-}
-
-fn say_plan(s: Setup, a: Answer, out: &[u8], directions: &mut [u8]) {
+// Says what a planner has found, unless it has refused.
+fn say_answer(a: Answer) -> Result<(), Refusal> {
     match a {
-        Answer::Planned(o) => {
-            say_outcome(o);
-            say_directions(s, out, directions);
-        }
-        Answer::Decided(d) => {
-            say_decision(d);
-            say_directions(s, out, directions);
-        }
-        Answer::Refused(r) => refuse(r, show::is_kept(out)),
+        Answer::Planned(o) => say_outcome(o),
+        Answer::Decided(Decision::Repaired) => show::say("repaired"),
+        Answer::Decided(Decision::Beyond) => show::say("beyond"),
+        Answer::Refused(r) => return Err(r),
+    }
+    Ok(())
+}
+
+fn plan_into(s: &State, planner: Planner, limit: u32, out: &mut [u8]) -> Answer {
+    let Size { n, m } = s.size;
+    match planner {
+        Planner::Trials => repair::plan_repair(n, m, s.grid.lent(), out, limit),
+        Planner::Quick => repair::plan_quickly(n, m, s.grid.lent(), out, limit),
+        Planner::Exact => repair::plan_exactly(n, m, s.grid.lent(), out),
     }
 }
 
-// Planning by any planner; the exact one has no limit.
-pub fn plan(s: Setup, planner: Planner, grid: &[u8], limit: u32, directions: &mut [u8]) {
-    let mut out = [show::MARK; 1025];
-    let a = plan_into(s, planner, grid, limit, &mut out);
-    say_plan(s, a, &out, directions);
-}
-
-fn place_into(s: Setup, grid: &[u8], directions: &[u8], out: &mut [u16]) -> Verdict {
-    let g = lent(s.grid, grid);
-    let d = lent(s.directions, directions);
-    let p = lent_places(s.places, out);
-    repair::place_cells(s.n, s.m, &grid[..g], &directions[..d], &mut out[..p])
-}
-
-fn say_placement(s: Setup, v: Verdict, out: &[u16]) {
-    match v {
-        Verdict::Accepted => {
-            let p = lent_places(s.places, out);
-            show::say(b"placed");
-            show::show_places(s.n, s.m, &out[..p]);
+// Planning by any planner; the exact one has no limit. The directions are those of the calls after it.
+fn plan(s: &mut State, planner: Planner, limit: u32) {
+    let mut out = s.directions.marked_alike();
+    match say_answer(plan_into(s, planner, limit, out.lent_mut())) {
+        Ok(()) => {
+            show::show(Shown::Directions, s.size, out.lent());
+            s.directions.take(out.lent());
         }
-        Verdict::Refused(r) => refuse(r, show::are_places_kept(out)),
+        Err(r) => refuse(r, out.is_kept()),
     }
 }
 
-pub fn place(s: Setup, grid: &[u8], directions: &[u8]) {
-    let mut out = [show::PLACE_MARK; 1025];
-    let v = place_into(s, grid, directions, &mut out);
-    say_placement(s, v, &out);
-}
-
-fn route_into(
-    s: Setup,
-    grid: &[u8],
-    directions: &[u8],
-    across: &mut [u8],
-    down: &mut [u8],
-) -> Verdict {
-    let g = lent(s.grid, grid);
-    let d = lent(s.directions, directions);
-    let a = lent(s.across, across);
-    let w = lent(s.down, down);
-    repair::route_switches(
-        s.n,
-        s.m,
-        &grid[..g],
-        &directions[..d],
-        &mut across[..a],
-        &mut down[..w],
-    )
+fn place(s: &State) {
+    let Size { n, m } = s.size;
+    let mut out = Buffer::<u16, ELEMENTS>::marked(s.places);
+    let (grid, directions) = (s.grid.lent(), s.directions.lent());
+    match repair::place_cells(n, m, grid, directions, out.lent_mut()) {
+        Ok(()) => {
+            show::say("placed");
+            show::show(Shown::Places, s.size, out.lent());
+        }
+        Err(r) => refuse(r, out.is_kept()),
+    }
 }
 
 // The two switch buffers.
-fn show_switches(s: Setup, across: &[u8], down: &[u8]) {
-    let a = lent(s.across, across);
-    let w = lent(s.down, down);
-    show::say(b" across");
-    show::show(Shown::Across, s.n, s.m, &across[..a]);
-    show::say(b" down");
-    show::show(Shown::Down, s.n, s.m, &down[..w]);
+fn show_switches(size: Size, across: &[u8], down: &[u8]) {
+    show::say(" across");
+    show::show(Shown::Across, size, across);
+    show::say(" down");
+    show::show(Shown::Down, size, down);
 }
 
-pub fn route(s: Setup, grid: &[u8], directions: &[u8], across: &mut [u8], down: &mut [u8]) {
-    let mut first = [show::MARK; 1025];
-    let mut second = [show::MARK; 1025];
-    match route_into(s, grid, directions, &mut first, &mut second) {
-        Verdict::Accepted => {
-            show::say(b"routed");
-            show_switches(s, &first, &second);
-            copy(across, &first, s.across);
-            copy(down, &second, s.down);
+fn route(s: &mut State) {
+    let Size { n, m } = s.size;
+    let mut across = s.across.marked_alike();
+    let mut down = s.down.marked_alike();
+    let grid = s.grid.lent();
+    let directions = s.directions.lent();
+    match repair::route_switches(n, m, grid, directions, across.lent_mut(), down.lent_mut()) {
+        Ok(()) => {
+            show::say("routed");
+            show_switches(s.size, across.lent(), down.lent());
+            s.across.take(across.lent());
+            s.down.take(down.lent());
         }
-        Verdict::Refused(r) => refuse(r, show::is_kept(&first) & show::is_kept(&second)),
+        Err(r) => refuse(r, across.is_kept() && down.is_kept()),
     }
 }
 
-fn say_followed(f: Followed) {
-    match f {
-        Followed::Entered(l) => {
-            show::say(b"entered");
+fn follow(s: &State, cell: usize, side: usize) {
+    let Size { n, m } = s.size;
+    let grid = s.grid.lent();
+    let directions = s.directions.lent();
+    let across = s.across.lent();
+    let down = s.down.lent();
+    match repair::follow_link(n, m, grid, directions, across, down, cell, side) {
+        Ok(l) => {
+            show::say("entered");
             show::say_number(l.position);
-            show::say_number(words::wide(l.port));
-            show::say_number(words::wide(l.switches));
+            show::say_number(usize::from(l.port));
+            show::say_number(usize::from(l.switches));
         }
-        Followed::Refused(r) => show::say_refusal(r),
+        Err(r) => show::say_refusal(r),
     }
 }
 
-pub fn follow(
-    s: Setup,
-    grid: &[u8],
-    directions: &[u8],
-    across: &[u8],
-    down: &[u8],
-    cell: usize,
-    side: usize,
-) {
-    let g = lent(s.grid, grid);
-    let d = lent(s.directions, directions);
-    let a = lent(s.across, across);
-    let w = lent(s.down, down);
-    say_followed(repair::follow_link(
-        s.n,
-        s.m,
-        &grid[..g],
-        &directions[..d],
-        &across[..a],
-        &down[..w],
-        cell,
-        side,
-    ));
+// The buffers that a run writes.
+#[derive(Drop)]
+struct Written {
+    directions: Buffer<u8, ELEMENTS>,
+    places: Buffer<u16, ELEMENTS>,
+    across: Buffer<u8, ELEMENTS>,
+    down: Buffer<u8, ELEMENTS>,
 }
 
-// A run by any planner.
-fn run_by(
-    planner: Planner,
-    n: usize,
-    m: usize,
-    grid: &[u8],
-    limit: u32,
-    directions: &mut [u8],
-    places: &mut [u16],
-    across: &mut [u8],
-    down: &mut [u8],
-) -> Ran {
-    match planner {
-        Planner::Trials => runs::repair_run(n, m, grid, limit, directions, places, across, down),
-        Planner::Quick => runs::run_quickly(n, m, grid, limit, directions, places, across, down),
-        Planner::Exact => runs::run_exactly(n, m, grid, directions, places, across, down),
+impl Written {
+    fn new(s: &State) -> Self {
+        Written {
+            directions: s.directions.marked_alike(),
+            places: Buffer::marked(s.places),
+            across: s.across.marked_alike(),
+            down: s.down.marked_alike(),
+        }
+    }
+
+    // A run by any planner.
+    fn run(&mut self, s: &State, planner: Planner, limit: u32) -> Ran {
+        let Size { n, m } = s.size;
+        let grid = s.grid.lent();
+        let d = self.directions.lent_mut();
+        let p = self.places.lent_mut();
+        let a = self.across.lent_mut();
+        let w = self.down.lent_mut();
+        match planner {
+            Planner::Trials => runs::repair_run(n, m, grid, limit, d, p, a, w),
+            Planner::Quick => runs::run_quickly(n, m, grid, limit, d, p, a, w),
+            Planner::Exact => runs::run_exactly(n, m, grid, d, p, a, w),
+        }
+    }
+
+    fn is_kept(&self) -> bool {
+        (self.directions.is_kept() && self.places.is_kept())
+            && (self.across.is_kept() && self.down.is_kept())
+    }
+
+    fn show(&self, size: Size) {
+        show::say(" directions");
+        show::show(Shown::Directions, size, self.directions.lent());
+        show::say(" places");
+        show::show(Shown::Places, size, self.places.lent());
+        show_switches(size, self.across.lent(), self.down.lent());
     }
 }
 
-fn run_into(
-    s: Setup,
-    planner: Planner,
-    grid: &[u8],
-    limit: u32,
-    directions: &mut [u8],
-    places: &mut [u16],
-    across: &mut [u8],
-    down: &mut [u8],
-) -> Ran {
-    let g = lent(s.grid, grid);
-    let d = lent(s.directions, directions);
-    let p = lent_places(s.places, places);
-    let a = lent(s.across, across);
-    let w = lent(s.down, down);
-    run_by(
-        planner,
-        s.n,
-        s.m,
-        &grid[..g],
-        limit,
-        &mut directions[..d],
-        &mut places[..p],
-        &mut across[..a],
-        &mut down[..w],
-    )
+fn say_links(links: usize) {
+    show::say(" links");
+    show::say_number(links);
 }
 
-fn say_links(r: Ran) {
-    show::say(b" links");
-    show::say_number(r.links);
-}
-
-// The buffers of a run that was not refused.
-fn show_run(s: Setup, directions: &[u8], places: &[u16], across: &[u8], down: &[u8]) {
-    let d = lent(s.directions, directions);
-    let p = lent_places(s.places, places);
-    show::say(b" directions");
-    show::show(Shown::Directions, s.n, s.m, &directions[..d]);
-    show::say(b" places");
-    show::show_places(s.n, s.m, &places[..p]);
-    show_switches(s, across, down);
-}
-
-// Whether a run has kept every element that it may write.
-fn is_run_kept(directions: &[u8], places: &[u16], across: &[u8], down: &[u8]) -> bool {
-    (show::is_kept(directions) & show::are_places_kept(places))
-        & (show::is_kept(across) & show::is_kept(down))
-}
-
-fn say_run(s: Setup, r: Ran, directions: &[u8], places: &[u16], across: &[u8], down: &[u8]) {
-    let answer = r.answer;
-    match answer {
-        Answer::Planned(o) => {
-            say_outcome(o);
-            say_links(r);
-            show_run(s, directions, places, across, down);
+fn run(s: &State, planner: Planner, limit: u32) {
+    let mut out = Written::new(s);
+    let r = out.run(s, planner, limit);
+    match say_answer(r.answer) {
+        Ok(()) => {
+            say_links(r.links);
+            out.show(s.size);
         }
-        Answer::Decided(d) => {
-            say_decision(d);
-            say_links(r);
-            show_run(s, directions, places, across, down);
-        }
-        Answer::Refused(e) => {
+        Err(e) => {
             show::say_refusal(e);
-            say_links(r);
-            show::say_kept(is_run_kept(directions, places, across, down));
+            say_links(r.links);
+            show::say_kept(out.is_kept());
         }
     }
 }
 
-pub fn run(s: Setup, planner: Planner, grid: &[u8], limit: u32) {
-    let mut directions = [show::MARK; 1025];
-    let mut places = [show::PLACE_MARK; 1025];
-    let mut across = [show::MARK; 1025];
-    let mut down = [show::MARK; 1025];
-    let r = run_into(
-        s,
-        planner,
-        grid,
-        limit,
-        &mut directions,
-        &mut places,
-        &mut across,
-        &mut down,
-    );
-    say_run(s, r, &directions, &places, &across, &down);
-}
-
-pub fn number(s: Setup, file: &[u8], at: usize) {
-    let f = lent(s.file, file);
-    match formats::read_number(&file[..f], at) {
-        Number::Read(v, next) => {
-            show::say(b"read");
+fn number(s: &State, at: usize) {
+    match formats::read_number(s.file.lent(), at) {
+        Ok((v, next)) => {
+            show::say("read");
             show::say_number(v as usize);
             show::say_number(next);
         }
-        Number::Refused(r) => show::say_refusal(r),
+        Err(r) => show::say_refusal(r),
     }
 }
 
@@ -344,168 +343,100 @@ fn say_head(head: Head) {
     show::say_number(head.count);
 }
 
-fn map_into(s: Setup, file: &[u8], out: &mut [u8]) -> MapRead {
-    let f = lent(s.file, file);
-    let g = lent(s.grid, out);
-    readers::read_map(&file[..f], &mut out[..g])
-}
-
-fn plan_file_into(s: Setup, file: &[u8], out: &mut [u8]) -> FileRead {
-    let f = lent(s.file, file);
-    let d = lent(s.directions, out);
-    readers::read_plan(&file[..f], &mut out[..d])
-}
-
-// The setup with the size of a map that was read.
-fn sized(s: Setup, head: Head) -> Setup {
-    Setup {
+// The size of a file that was read.
+fn size_of(head: Head) -> Size {
+    Size {
         n: head.rows,
         m: head.columns,
-        grid: s.grid,
-        directions: s.directions,
-        places: s.places,
-        across: s.across,
-        down: s.down,
-        file: s.file,
     }
 }
 
-pub fn read_map(s: Setup, file: &[u8], grid: &mut [u8]) -> Setup {
-    let mut out = [show::MARK; 1025];
-    match map_into(s, file, &mut out) {
-        MapRead::File(head) => {
-            let g = lent(s.grid, &out);
-            show::say(b"map");
+// Reading a map. It is the grid of the calls after it.
+fn read_map(s: &mut State) {
+    let mut out = s.grid.marked_alike();
+    match readers::read_map(s.file.lent(), out.lent_mut()) {
+        Ok(head) => {
+            show::say("map");
             say_head(head);
-            show::show(Shown::Grid, head.rows, head.columns, &out[..g]);
-            copy(grid, &out, g);
-            sized(s, head)
+            show::show(Shown::Grid, size_of(head), out.lent());
+            s.grid.take(out.lent());
+            s.size = size_of(head);
         }
-        MapRead::Refused(r) => {
-            refuse(r, show::is_kept(&out));
-            s
-        }
+        Err(r) => refuse(r, out.is_kept()),
     }
 }
 
-pub fn read_plan(s: Setup, file: &[u8], directions: &mut [u8]) {
-    let mut out = [show::MARK; 1025];
-    match plan_file_into(s, file, &mut out) {
-        FileRead::File(head, trials) => {
-            let d = lent(s.directions, &out);
-            show::say(b"plan");
+// Reading a plan. Its directions are those of the calls after it.
+fn read_plan(s: &mut State) {
+    let mut out = s.directions.marked_alike();
+    match readers::read_plan(s.file.lent(), out.lent_mut()) {
+        Ok((head, trials)) => {
+            show::say("plan");
             say_head(head);
             show::say_number(trials as usize);
-            show::show(Shown::Directions, head.rows, head.columns, &out[..d]);
-            copy(directions, &out, d);
+            show::show(Shown::Directions, size_of(head), out.lent());
+            s.directions.take(out.lent());
         }
-        FileRead::Refused(r) => refuse(r, show::is_kept(&out)),
+        Err(r) => refuse(r, out.is_kept()),
     }
 }
 
 fn say_length(k: usize) {
-    show::say(b"length");
+    show::say("length");
     show::say_number(k);
-    show::say(b":");
+    show::say(":");
 }
 
 // The bytes after the length that was answered.
-fn say_rest(out: &[u8], k: usize) {
-    show::say(b", rest");
-    show::say_kept(show::is_kept_from(out, k));
-}
-
-// The setup with the length of a file that was written.
-fn filed(s: Setup, length: usize) -> Setup {
-    Setup {
-        n: s.n,
-        m: s.m,
-        grid: s.grid,
-        directions: s.directions,
-        places: s.places,
-        across: s.across,
-        down: s.down,
-        file: length,
-    }
+fn say_rest(out: &Buffer<u8, BYTES>, k: usize) {
+    show::say(", rest");
+    show::say_kept(out.is_kept_from(k));
 }
 
 // What a writer answers. The file that it wrote is the file of the calls after it.
-fn say_written(s: Setup, a: FileWritten, out: &[u8], file: &mut [u8]) -> Setup {
-    match a {
-        FileWritten::Length(k) => {
+fn keep_file(s: &mut State, answer: Result<usize, Refusal>, out: &Buffer<u8, BYTES>) {
+    match answer {
+        Ok(k) => {
             say_length(k);
-            show::show_bytes(out, k);
+            show::show_bytes(out.first(k));
             say_rest(out, k);
-            copy(file, out, k);
-            filed(s, k)
+            s.file.take(out.first(k));
+            s.file.lend(k);
         }
-        FileWritten::Refused(r) => {
-            refuse(r, show::is_kept(out));
-            s
-        }
+        Err(r) => refuse(r, out.is_kept()),
     }
 }
 
-fn write_map_into(s: Setup, grid: &[u8], length: usize, out: &mut [u8]) -> FileWritten {
-    let g = lent(s.grid, grid);
-    let k = lent(length, out);
-    writers::write_map(s.n, s.m, &grid[..g], &mut out[..k])
+fn write_map(s: &mut State, length: usize) {
+    let Size { n, m } = s.size;
+    let mut out = Buffer::marked(length);
+    let answer = writers::write_map(n, m, s.grid.lent(), out.lent_mut());
+    keep_file(s, answer, &out);
 }
 
-pub fn write_map(s: Setup, grid: &[u8], length: usize, file: &mut [u8]) -> Setup {
-    let mut out = [show::MARK; 4096];
-    let a = write_map_into(s, grid, length, &mut out);
-    say_written(s, a, &out, file)
+fn write_plan(s: &mut State, trials: u32, length: usize) {
+    let Size { n, m } = s.size;
+    let mut out = Buffer::marked(length);
+    let answer = writers::write_plan(n, m, s.directions.lent(), trials, out.lent_mut());
+    keep_file(s, answer, &out);
 }
 
-fn write_plan_into(
-    s: Setup,
-    directions: &[u8],
-    trials: u32,
-    length: usize,
-    out: &mut [u8],
-) -> FileWritten {
-    let d = lent(s.directions, directions);
-    let k = lent(length, out);
-    writers::write_plan(s.n, s.m, &directions[..d], trials, &mut out[..k])
-}
-
-pub fn write_plan(
-    s: Setup,
-    directions: &[u8],
-    trials: u32,
-    length: usize,
-    file: &mut [u8],
-) -> Setup {
-    let mut out = [show::MARK; 4096];
-    let a = write_plan_into(s, directions, trials, length, &mut out);
-    say_written(s, a, &out, file)
-}
-
-fn report_into(
-    s: Setup,
-    planner: Planner,
-    file: &[u8],
-    length: usize,
-    out: &mut [u8],
-) -> FileWritten {
-    let f = lent(s.file, file);
-    let k = lent(length, out);
+fn list_into(s: &State, planner: Planner, out: &mut [u8]) -> Result<usize, Refusal> {
     match planner {
-        Planner::Trials => listing::report(&file[..f], &mut out[..k]),
-        Planner::Quick => listing::report_quickly(&file[..f], &mut out[..k]),
-        Planner::Exact => listing::report_exactly(&file[..f], &mut out[..k]),
+        Planner::Trials => listing::report(s.file.lent(), out),
+        Planner::Quick => listing::report_quickly(s.file.lent(), out),
+        Planner::Exact => listing::report_exactly(s.file.lent(), out),
     }
 }
 
-pub fn list(s: Setup, planner: Planner, file: &[u8], length: usize) {
-    let mut out = [show::MARK; 4096];
-    match report_into(s, planner, file, length, &mut out) {
-        FileWritten::Length(k) => {
+fn list(s: &State, planner: Planner, length: usize) {
+    let mut out = Buffer::<u8, BYTES>::marked(length);
+    match list_into(s, planner, out.lent_mut()) {
+        Ok(k) => {
             say_length(k);
-            show::show_text(&out, k);
+            show::show_text(out.first(k));
             say_rest(&out, k);
         }
-        FileWritten::Refused(r) => refuse(r, show::is_kept(&out)),
+        Err(r) => refuse(r, out.is_kept()),
     }
 }

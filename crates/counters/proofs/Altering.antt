@@ -1,16 +1,17 @@
 -- Counters that are altered in place, and what the clash table says of whether a path counts.
 -- Assumes nothing.
 use Prim.Native.Nat.{ℕ, ◌+◌, ◌≤◌, ◌<◌}
-use mathlib.Core.Path.{◌≡◌, refl, sym, ap, ◌∙◌}
-use mathlib.Core.Bool.{Bool, true, false, cond, not, ◌&&◌, ◌||◌, true≢false}
+use mathlib.Core.Path.{◌≡◌, refl, sym, ap, subst, ◌∙◌}
+use mathlib.Core.Bool.{Bool, true, false, not, ◌&&◌}
 use mathlib.Core.List.{List}
 use native.Mathlib.Omega.{arith}
-use borrow.Author.Tests.{eqb-true, eq-eqb, ne_eqb, lt-ltb, le-ltb, not-false}
+use borrow.Author.Tests.{eqb-true, eqb-false, eq-eqb, ne_eqb}
 use lib.Dec.{eqb}
 use lib.ListN.{length, get_or, set}
 use lib.Seq.{get_or-set_other}
-use Rattle.array.specs.Place.{row, column, inner}
-use Rattle.array.proofs.Bools.{and_none, or_false, by_bool}
+use Rattle.array.proofs.Places.{Inner, inner_holds, inner_at_holds, position_read}
+use Rattle.array.specs.Place.{position, row, column, inner_at, inner}
+use Rattle.array.proofs.Bools.{and_none, by_bool, by_lt, cond_left}
 use Rattle.array.proofs.Fills.{Filling, fill_start, fill_step, fill_end}
 use Rattle.paths.specs.Path.{is_clear, clear, Start}
 use Rattle.paths.specs.Table.{class, entry, byte_of}
@@ -43,44 +44,26 @@ module _ (n m d p q e : ℕ) where
       rw (ne_eqb e 0 (λ z. omega arith), ne_eqb q p (λ z. ne (sym z)))
       (ap not (sym (byte_clear there ∙ ap is_clear (entry_is_clash n m p d q e s t ne))))
 
--- The counter x of direction d at p, by what the code tests: that p is inner and not q, and then the entry.
-module _ (n m : ℕ) (up : Bool) (q e d p x : ℕ) where
-  -- as it is then
-  abbrev pub AlteredTo : ℕ → Type 0
-  AlteredTo v = v ≡ cond (inner n m p && counts n m d p q e) (altered_by up x) x
+-- Whether the path counts at an inner position, by what the code tests: that it is not q, and the entry.
+module _ (n m d q e x y : ℕ) (i : inner_at n m x y ≡ true) (t : Start n m q e) where
+  read : (row (position x y) ≡ x) × (column (position x y) ≡ y)
+  read = let h = inner_at_holds n m x y i in position_read x y (omega (arith, h.column_high, t.columns))
 
-  pub not_tested : {r : Bool} → r ≡ inner n m p → (not r || eqb p q) ≡ true → AlteredTo x
-  not_tested h t =
-      by_bool (inner n m p)
-      (λ i.
-      let same : p ≡ q = eqb-true p q (rw (h ∙ i) at t) in
-      rw (i, own_uncounted n m d p q e same))
-      (λ i. rw i)
+  pub inner_there : inner n m (position x y) ≡ true
+  inner_there = rw (read.0, read.1) i
 
-  -- another inner position than q
-  pub tested : {r : Bool} → r ≡ inner n m p → (not r || eqb p q) ≡ false → (inner n m p ≡ true) × (p ≡ q → ⊥)
-  tested {r} h f =
-      let a = or_false (not r) (eqb p q) f in
-      (sym h ∙ not-false r a.0, λ z. true≢false (sym (eq-eqb p q z) ∙ a.1))
+  pub entry_counts : 1 ≤ d → d ≤ 4 → {found : ℕ} → found ≡ byte_of (entry d e (class x (row q)) (class y (column q)))
+      → (not (eqb (position x y) q) && not (eqb found 0)) ≡ counts n m d (position x y) q e
+  entry_counts low high {found} h =
+      let start : Start n m (position x y) d =
+      record { rows = t.rows; columns = t.columns; at = inner_there; low = low; high = high } in
+      let there : found ≡ byte_of (entry d e (class (row (position x y)) (row q)) (class (column (position x y)) (column q))) =
+      rw (read.0, read.1) h in
+      by_bool (eqb (position x y) q)
+      (λ z. rw (z, own_uncounted n m d (position x y) q e (eqb-true (position x y) q z)))
+      (λ z. rw (z, counts_by_entry n m d (position x y) q e start t (eqb-false (position x y) q z), there))
 
-  abbrev pub found_at : ℕ
-  found_at = byte_of (entry d e (class (row p) (row q)) (class (column p) (column q)))
-
-  module _ (s : Start n m p d) (t : Start n m q e) (ne : p ≡ q → ⊥) {found : ℕ} (h : found ≡ found_at) where
-    pub clear_same : found ≡ 0 → AlteredTo x
-    clear_same z = rw (s.at, counts_by_entry n m d p q e s t ne, eq-eqb found_at 0 (sym h ∙ z))
-
-    pub clash_altered : {v : ℕ} → (found ≡ 0 → ⊥) → v ≡ altered_by up x → AlteredTo v
-    clash_altered z k = rw (s.at, counts_by_entry n m d p q e s t ne, ne_eqb found_at 0 (λ y. z (h ∙ y))) k
-
--- a counter that goes up, and one that stays at 255
-pub raised : (up : Bool) (x : ℕ) → up ≡ true → x < 255 → x + 1 ≡ altered_by up x
-raised up x h l = rw (h, lt-ltb x 255 l)
-
-pub full : (up : Bool) (x : ℕ) → up ≡ true → 255 ≤ x → x ≡ altered_by up x
-full up x h l = rw (h, le-ltb x 255 l)
-
--- The invariant of such a loop at p: the elements before it are altered, and the others as they were.
+-- The invariant of a loop over the counters of direction d: those before p are altered, and the others as they were.
 pub record Altering (n m : ℕ) (up : Bool) (q e d p : ℕ) (old new : List ℕ) : Type 0 where
   pub filling : Filling (altered_at n m up q e d old) 1024 p new
   pub rest : (k : ℕ) → p ≤ k → get_or new k 0 ≡ get_or old k 0
@@ -90,17 +73,44 @@ module _ {n m : ℕ} {up : Bool} {q e d : ℕ} where
   alter_start old h = record { filling = fill_start (altered_at n m up q e d old) old h; rest = λ k l. refl }
 
   module _ {p : ℕ} {old new : List ℕ} (s : Altering n m up q e d p old new) where
-    pub alter_step : (v : ℕ) → p < 1024
-        → v ≡ cond (inner n m p && counts n m d p q e) (altered_by up (get_or new p 0)) (get_or new p 0)
+    -- a counter in which the path counts
+    pub alter_step : {v : ℕ} → p < 1024 → inner n m p ≡ true → counts n m d p q e ≡ true → v ≡ altered_by up (get_or new p 0)
         → Altering n m up q e d (p + 1) old (set new p v)
-    alter_step v l h =
-        let counted : Bool = inner n m p && counts n m d p q e in
+    alter_step {v} l i t k =
         record {
-          filling =
-              fill_step s.filling v l
-              (h ∙ ap (λ (x : ℕ). cond counted (altered_by up x) x) (s.rest p (omega arith)));
+          filling = fill_step s.filling v l (rw (i, t) (k ∙ ap (altered_by up) (s.rest p (omega arith))));
           rest = λ k g. get_or-set_other new p k v 0 (λ z. omega arith) ∙ s.rest k (omega arith);
         }
+
+    -- counters in which it does not count stay
+    pub alter_skip : (r : ℕ) → p ≤ r → r ≤ 1024 → ((k : ℕ) → p ≤ k → k < r → (inner n m k && counts n m d k q e) ≡ false)
+        → Altering n m up q e d r old new
+    alter_skip r l h none =
+        record {
+          filling =
+              record {
+                within = h;
+                long = s.filling.long;
+                front = λ k b.
+                    by_lt k p (λ a. s.filling.front k a)
+                    (λ a. s.rest k a ∙ sym (cond_left (altered_by up (get_or old k 0)) (get_or old k 0) refl (none k a b)));
+              };
+          rest = λ k g. s.rest k (omega arith);
+        }
+
+    pub alter_stay : p < 1024 → counts n m d p q e ≡ false → Altering n m up q e d (p + 1) old new
+    alter_stay l f =
+        alter_skip (p + 1) (omega arith) (omega arith)
+        (λ k a b.
+        let z : k ≡ p = omega arith in
+        subst (λ (j : ℕ). (inner n m j && counts n m d j q e) ≡ false) (sym z) (rw f (and_none (inner n m p))))
+
+    -- nor is there anything to alter beyond the inner positions
+    pub alter_past : (r : ℕ) → p ≤ r → r ≤ 1024 → ((k : ℕ) → p ≤ k → k < r → Inner n m k → ⊥) → Altering n m up q e d r old new
+    alter_past r l h none =
+        alter_skip r l h
+        (λ k a b.
+        by_bool (inner n m k) (λ i. absurd (none k a b (inner_holds n m k i))) (λ i. rw i))
 
     pub alter_end : 1024 ≤ p → new ≡ counters_after n m up q e d old
     unfolding counters_after

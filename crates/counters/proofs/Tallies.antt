@@ -7,10 +7,10 @@ use mathlib.Core.List.{List}
 use native.Mathlib.Omega.{arith}
 use native.Mathlib.Nat.{add-zero}
 use borrow.Author.Tests.{lt-ltb}
-use lib.ListN.{length, get_or}
+use lib.ListN.{length, get_or, replicate}
 use lib.Seq.{ext_get_or}
 use Rattle.array.specs.Place.{inner}
-use Rattle.array.specs.Buffer.{buffer, nothing_at, zeros}
+use Rattle.array.specs.Buffer.{span, buffer, zeros}
 use Rattle.array.proofs.Bools.{by_bool}
 use Rattle.array.proofs.Fills.{tabulate_length, tabulate_at}
 use Rattle.array.proofs.Counts.{Counting, count_start, count_take, count_skip, count_end}
@@ -30,6 +30,11 @@ pub no_path_counts : (n m d p q : ℕ) → counts n m d p q 0 ≡ false
 unfolding counts
 no_path_counts n m d p q = refl
 
+-- a new array is all 0
+pub new_zeros : replicate 1024 0 ≡ zeros
+unfolding span
+new_zeros = refl
+
 -- a counter that has the paths counted so far
 abbrev so_far : ℕ → ℕ → (ℕ → ℕ) → ℕ → ℕ
 so_far n m k p = cond (inner n m p) (k p) 0
@@ -40,22 +45,13 @@ pub record Tallying (n m : ℕ) (directions : List ℕ) (d q : ℕ) (counters : 
   pub counted : (p : ℕ) → Counting (counts n m d p) directions q (k p)
   pub held : counters ≡ buffer (so_far n m k)
 
-pub tally_long : {n m : ℕ} {directions : List ℕ} {d q : ℕ} {counters : List ℕ}
-    → Tallying n m directions d q counters → length counters ≡ 1024
-tally_long {n} {m} s = ap length s.held ∙ tabulate_length (so_far n m s.k) 1024
-
--- and so it was where it held 0
-pub tally_same : {n m : ℕ} {directions : List ℕ} {d q : ℕ} {old counters : List ℕ}
-    → Tallying n m directions d q counters → old ≡ zeros → length counters ≡ length old
-tally_same s h = tally_long s ∙ sym (ap length h ∙ tabulate_length nothing_at 1024)
-
 module _ {n m : ℕ} {directions : List ℕ} (kept : Kept n m directions) (d : ℕ) where
-  pub tally_start : {counters : List ℕ} → counters ≡ zeros → Tallying n m directions d 0 counters
-  tally_start h =
+  pub tally_start : Tallying n m directions d 0 (replicate 1024 0)
+  tally_start =
       record {
         k = λ p. 0;
         counted = λ p. count_start (counts n m d p) directions;
-        held = h ∙ buffer_same _ _ (λ p l. by_bool (inner n m p) (λ i. rw i) (λ i. rw i));
+        held = new_zeros ∙ buffer_same _ _ (λ p l. by_bool (inner n m p) (λ i. rw i) (λ i. rw i));
       }
 
   module _ {q : ℕ} {counters : List ℕ} (s : Tallying n m directions d q counters) (below : q < 1024) where

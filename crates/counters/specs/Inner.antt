@@ -1,9 +1,16 @@
 -- What the inner parts ask of their arguments.
 -- Assumes nothing.
-use Rattle.std.specs.Prelude.{ℕ, ◌≤◌, ◌<◌, ◌≡◌, List, length, get_or}
+use Rattle.std.specs.Prelude.{ℕ, ◌≤◌, ◌<◌, ◌≡◌, Bool, true, false, List, length, get_or}
 use Rattle.array.specs.Buffer.{positions_in}
 use Rattle.paths.specs.Path.{Start}
 use Rattle.counters.specs.Count.{counts}
+use Rattle.counters.specs.declared.Change.{Change}
+use Rattle.counters.specs.declared.Change.TheVariants.{Comes, Goes}
+
+-- whether a kept path comes, as the definitions of counters have it
+abbrev pub is_coming : Change → Bool
+is_coming Comes = true
+is_coming Goes = false
 
 -- every direction that is not 0 starts a path, and no counter has more than 255 of them to count
 pub record Kept (n m : ℕ) (directions : List ℕ) : Type 0 where

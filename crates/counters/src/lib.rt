@@ -1,113 +1,89 @@
 // Counters: how many kept paths stand in the way of a path from each inner position, by direction. Inner parts of sessions.
 #![tactic(auto)]
 
-ghost use Rattle.std.specs.Prelude.{◌≡◌, cond, ◌&&◌, ◌≤◌, length};
-ghost use Rattle.array.specs.Place.{inner};
-ghost use Rattle.array.specs.Buffer.{zeros};
-ghost use Rattle.paths.specs.Path.{Start};
+ghost use Rattle.std.specs.Prelude.{◌≡◌, true, ◌≤◌};
+ghost use Rattle.array.specs.Place.{position, inner_at};
 ghost use Rattle.paths.specs.Table.{ClashTable};
 ghost use Rattle.counters.specs.Count.{counts, altered_by, counters_after, counters_afresh};
-ghost use Rattle.counters.specs.Inner.{Kept};
+ghost use Rattle.counters.specs.Inner.{Kept, is_coming};
 
-// A counter up or down by 1, and not beyond 255 or 0.
-fn alter(up: bool, counter: u8) -> u8
-    ensures { result ≡ altered_by up counter }
-{
-    if up {
-        if counter < 255 {
-            return counter + 1;
-        }
-        return counter;
-    }
-    if 0 < counter {
-        return counter - 1;
-    }
-    0
+use array::Shape;
+use paths::Path;
+
+// What happens to a kept path.
+#[derive(Clone, Copy, Debug, PartialEq, Eq)]
+pub enum Change {
+    Comes,
+    Goes,
 }
 
-// The counter of direction d at p, where the path from q in direction e comes (up) or goes.
-fn alter_at(
-    table: &[u8; 400],
-    n: usize,
-    m: usize,
-    up: bool,
-    q: usize,
-    e: u8,
-    d: u8,
-    p: usize,
-    counter: u8,
-) -> u8
-    requires { ClashTable table.now × Start n m q e × (1 ≤ d) × (d ≤ 4) }
-    ensures { result ≡ cond (inner n m p && counts n m d p q e) (altered_by up counter) counter }
-{
-    if !array::is_inner(n, m, p) | (p == q) {
-        return counter;
+impl Change {
+    // A counter up or down by 1, and not beyond 255 or 0.
+    fn alter(self, counter: u8) -> u8
+        ensures { result ≡ altered_by (is_coming self) counter }
+    {
+        match self {
+            Change::Comes => counter.saturating_add(1),
+            Change::Goes => counter.saturating_sub(1),
+        }
     }
+}
+
+// Whether a kept path counts in the counter of direction d at row x and column y, an inner position.
+fn does_count(path: Path, table: &[u8; 400], d: u8, x: usize, y: usize) -> bool
+    requires lookup { ClashTable table.now × (1 ≤ d) × (d ≤ 4) }
+    requires inside { inner_at path.shape.rows path.shape.columns x y ≡ true }
+    ensures { result ≡ counts path.shape.rows path.shape.columns d (position x y) path.start path.direction }
+{
     let found = paths::find_entry(
         table,
-        (p / 32) as u8,
-        (p % 32) as u8,
+        x as u8,
+        y as u8,
         d,
-        (q / 32) as u8,
-        (q % 32) as u8,
-        e,
+        (path.start / 32) as u8,
+        (path.start % 32) as u8,
+        path.direction,
     );
-    if found == paths::CLEAR {
-        return counter;
-    }
-    alter(up, counter)
+    (32 * x + y != path.start) & (found != paths::CLEAR)
 }
 
-// Alters the counters that the path from q in direction e counts in, where that path comes (up) or goes.
-pub fn alter_all(
+// Alters the counters of direction d in which a kept path counts. It goes by row and column, so that what depends on
+// the row alone is computed once for a row.
+pub fn alter_counters(
+    path: Path,
     table: &[u8; 400],
-    n: usize,
-    m: usize,
-    up: bool,
-    q: usize,
-    e: u8,
-    south: &mut [u8],
-    north: &mut [u8],
-    east: &mut [u8],
-    west: &mut [u8],
+    change: Change,
+    d: u8,
+    counters: &mut [u8; 1024],
 )
-    requires { ClashTable table.now × Start n m q e × (length south.old ≡ 1024) × (length north.old ≡ 1024)
-        × (length east.old ≡ 1024) × (length west.old ≡ 1024) }
-    ensures { (south.new ≡ counters_after n m up q e 1 south.old)
-        × (north.new ≡ counters_after n m up q e 2 north.old)
-        × (east.new ≡ counters_after n m up q e 3 east.old)
-        × (west.new ≡ counters_after n m up q e 4 west.old) }
+    requires { ClashTable table.now × (1 ≤ d) × (d ≤ 4) }
+    ensures { counters.new ≡ counters_after path.shape.rows path.shape.columns (is_coming change)
+        path.start path.direction d counters.old }
 {
-    for p in 0..1024 {
-        south[p] = alter_at(table, n, m, up, q, e, 1, p, south[p]);
-        north[p] = alter_at(table, n, m, up, q, e, 2, p, north[p]);
-        east[p] = alter_at(table, n, m, up, q, e, 3, p, east[p]);
-        west[p] = alter_at(table, n, m, up, q, e, 4, p, west[p]);
-    }
-}
-
-// The counters of a plan's directions, over four buffers that hold 0: its paths come one by one.
-pub fn count_all(
-    n: usize,
-    m: usize,
-    directions: &[u8],
-    south: &mut [u8],
-    north: &mut [u8],
-    east: &mut [u8],
-    west: &mut [u8],
-)
-    requires { Kept n m directions.now × (south.old ≡ zeros) × (north.old ≡ zeros) × (east.old ≡ zeros)
-        × (west.old ≡ zeros) }
-    ensures { (south.new ≡ counters_afresh n m directions.now 1)
-        × (north.new ≡ counters_afresh n m directions.now 2)
-        × (east.new ≡ counters_afresh n m directions.now 3)
-        × (west.new ≡ counters_afresh n m directions.now 4) }
-{
-    let table = paths::clash_table();
-    for q in 0..1024 {
-        let e = directions[q];
-        if e != 0 {
-            alter_all(&table, n, m, true, q, e, south, north, east, west);
+    for x in 1..path.shape.rows + 1 {
+        for y in 1..path.shape.columns + 1 {
+            if does_count(path, table, d, x, y) {
+                counters[32 * x + y] = change.alter(counters[32 * x + y]);
+            }
         }
     }
+}
+
+// The counters of direction d, made afresh from a plan's directions: its paths come one by one.
+pub fn count_afresh(table: &[u8; 400], shape: Shape, directions: &[u8], d: u8) -> [u8; 1024]
+    requires { ClashTable table.now × Kept shape.rows shape.columns directions.now × (1 ≤ d) × (d ≤ 4) }
+    ensures { result ≡ counters_afresh shape.rows shape.columns directions.now d }
+{
+    let mut counters = [0; 1024];
+    for (start, &direction) in directions.iter().enumerate() {
+        if direction != 0 {
+            let path = Path {
+                shape,
+                start,
+                direction,
+            };
+            alter_counters(path, table, Change::Comes, d, &mut counters);
+        }
+    }
+    counters
 }

@@ -1,197 +1,172 @@
-// The answers of the proved operations in the terms of the second ones, and buffers compared.
-use array::Verdict;
+// The operations on maps and plans, answering as the second ones do.
+use array::{Refusal, Verdict};
 use exact::Decision;
-use readers::{FileRead, Head, MapRead};
-use repair::Answer;
-use second::buffers;
-use second::checks::Finding;
-use second::planner::Planned;
-use track::{Followed, Landing};
-use trials::Outcome;
-use writers::FileWritten;
+use readers::Head;
+use repair::{Answer, Planner};
+use second::cells::Places;
+use second::links::{Side, Track};
+use second::maps::{Map, Plan, Spot};
+use second::planner::{Outcome, Planned};
+use track::Followed;
 
-fn outcome_of(o: Outcome) -> Planned {
-    match o {
-        Outcome::Repaired(count) => Planned { outcome: 0, count },
-        Outcome::Beyond(count) => Planned { outcome: 1, count },
-        Outcome::Spent(count) => Planned { outcome: 2, count },
+// The error of an operation that refuses what is well formed.
+#[derive(Clone, Copy)]
+pub struct Refused;
+
+// What fills a buffer that an operation is to write.
+const UNWRITTEN: u8 = 9;
+
+fn planned_of(found: trials::Outcome, plan: Plan) -> Planned {
+    let (outcome, trials) = match found {
+        trials::Outcome::Repaired(count) => (Outcome::Repaired, count),
+        trials::Outcome::Beyond(count) => (Outcome::Beyond, count),
+        trials::Outcome::Spent(count) => (Outcome::Spent, count),
+    };
+    Planned {
+        outcome,
+        trials,
+        plan,
     }
 }
 
 // A decision, with no trials.
-fn decision_of(d: Decision) -> Planned {
-    match d {
-        Decision::Repaired => Planned {
-            outcome: 0,
-            count: 0,
-        },
-        Decision::Beyond => Planned {
-            outcome: 1,
-            count: 0,
-        },
+fn decided(decision: Decision, plan: Plan) -> Planned {
+    let outcome = match decision {
+        Decision::Repaired => Outcome::Repaired,
+        Decision::Beyond => Outcome::Beyond,
+    };
+    Planned {
+        outcome,
+        trials: 0,
+        plan,
     }
 }
 
-// A planner's answer; outcome 3 where it refuses.
-fn answer_of(a: Answer) -> Planned {
-    match a {
-        Answer::Planned(o) => outcome_of(o),
-        Answer::Decided(d) => decision_of(d),
-        Answer::Refused(_) => Planned {
-            outcome: 3,
-            count: 0,
-        },
+// A planner under a limit, which the exact one does not read.
+pub fn planned(planner: Planner, map: &Map, limit: u32) -> Result<Planned, Refused> {
+    let Map {
+        rows,
+        columns,
+        marks,
+    } = *map;
+    let mut directions = [UNWRITTEN; 1024];
+    let answer = match planner {
+        Planner::Trials => repair::plan_repair(rows, columns, &marks, &mut directions, limit),
+        Planner::Quick => repair::plan_quickly(rows, columns, &marks, &mut directions, limit),
+        Planner::Exact => repair::plan_exactly(rows, columns, &marks, &mut directions),
+    };
+    let plan = Plan { directions };
+    match answer {
+        Answer::Planned(found) => Ok(planned_of(found, plan)),
+        Answer::Decided(decision) => Ok(decided(decision, plan)),
+        Answer::Refused(_) => Err(Refused),
     }
 }
 
-pub fn planned(n: usize, m: usize, grid: &[u8], directions: &mut [u8], limit: u32) -> Planned {
-    answer_of(repair::plan_repair(n, m, grid, directions, limit))
-}
-
-pub fn planned_quickly(
-    n: usize,
-    m: usize,
-    grid: &[u8],
-    directions: &mut [u8],
-    limit: u32,
-) -> Planned {
-    answer_of(repair::plan_quickly(n, m, grid, directions, limit))
-}
-
-pub fn planned_exactly(n: usize, m: usize, grid: &[u8], directions: &mut [u8]) -> Planned {
-    answer_of(repair::plan_exactly(n, m, grid, directions))
-}
-
-fn finding_of(v: Verdict) -> Finding {
-    match v {
-        Verdict::Accepted => Finding {
-            number: 0,
-            place: 0,
-            second: 0,
-        },
-        Verdict::Refused(r) => Finding {
-            number: r.number,
-            place: r.place,
-            second: r.second,
-        },
+// The plan check: the number, place and second place of a plan that it refuses.
+pub fn checked(map: &Map, plan: &Plan) -> Option<(u8, usize, usize)> {
+    match plans::check_plan(map.rows, map.columns, &map.marks, &plan.directions) {
+        Ok(()) => None,
+        Err(refusal) => Some((refusal.number(), refusal.place, refusal.second)),
     }
 }
 
-// The plan check's answer.
-pub fn checked(n: usize, m: usize, grid: &[u8], directions: &[u8]) -> Finding {
-    finding_of(plans::check_plan(n, m, grid, directions))
-}
-
-fn is_accepted(v: Verdict) -> bool {
-    if let Verdict::Accepted = v {
-        true
-    } else {
-        false
+// The placement of a plan.
+pub fn placed(map: &Map, plan: &Plan) -> Result<Places, Refused> {
+    let mut numbers = [u16::from(UNWRITTEN); 1024];
+    match repair::place_cells(
+        map.rows,
+        map.columns,
+        &map.marks,
+        &plan.directions,
+        &mut numbers,
+    ) {
+        Ok(()) => Ok(Places { numbers }),
+        Err(_) => Err(Refused),
     }
 }
 
-// Whether the placement is accepted.
-pub fn is_placed(n: usize, m: usize, grid: &[u8], directions: &[u8], places: &mut [u16]) -> bool {
-    is_accepted(repair::place_cells(n, m, grid, directions, places))
-}
-
-// Whether the routing is accepted.
-pub fn is_routed(
-    n: usize,
-    m: usize,
-    grid: &[u8],
-    directions: &[u8],
-    across: &mut [u8],
-    down: &mut [u8],
-) -> bool {
-    is_accepted(repair::route_switches(n, m, grid, directions, across, down))
-}
-
-// The follower's answer; a position past the array where it refuses.
-pub fn landed(
-    n: usize,
-    m: usize,
-    grid: &[u8],
-    directions: &[u8],
-    across: &[u8],
-    down: &[u8],
-    cell: usize,
-    side: usize,
-) -> Landing {
-    match repair::follow_link(n, m, grid, directions, across, down, cell, side) {
-        Followed::Entered(l) => l,
-        Followed::Refused(_) => Landing {
-            position: 1024,
-            port: 4,
-            switches: 0,
-        },
+// The track of a plan.
+pub fn routed(map: &Map, plan: &Plan) -> Result<Track, Refused> {
+    let mut across = [UNWRITTEN; 1024];
+    let mut down = [UNWRITTEN; 1024];
+    let verdict = repair::route_switches(
+        map.rows,
+        map.columns,
+        &map.marks,
+        &plan.directions,
+        &mut across,
+        &mut down,
+    );
+    match verdict {
+        Ok(()) => Ok(Track {
+            map: *map,
+            plan: *plan,
+            across,
+            down,
+        }),
+        Err(_) => Err(Refused),
     }
 }
 
-// A length that a writer answers, or 0 where it refuses.
-pub fn length_of(a: FileWritten) -> usize {
-    match a {
-        FileWritten::Length(k) => k,
-        FileWritten::Refused(_) => 0,
+// Where the follower says that the link of a cell by its east or south port comes out: the position, the port and the switches passed.
+pub fn landed(track: &Track, cell: Spot, port: Side) -> Option<(usize, u8, u8)> {
+    let followed = repair::follow_link(
+        track.map.rows,
+        track.map.columns,
+        &track.map.marks,
+        &track.plan.directions,
+        &track.across,
+        &track.down,
+        cell.position(),
+        usize::from(port == Side::South),
+    );
+    match followed {
+        Ok(landing) => Some((landing.position, landing.port, landing.switches)),
+        Err(_) => None,
     }
 }
 
-fn is_head(h: Head, n: usize, m: usize, count: usize) -> bool {
-    ((h.rows == n) & (h.columns == m)) & (h.count == count)
-}
-
-// Whether the reader of maps gives this N, M and count.
-pub fn is_map_head(a: MapRead, n: usize, m: usize, count: usize) -> bool {
-    match a {
-        MapRead::File(h) => is_head(h, n, m, count),
-        MapRead::Refused(_) => false,
+fn length_of(written: Result<usize, Refusal>) -> Result<usize, Refused> {
+    match written {
+        Ok(length) => Ok(length),
+        Err(_) => Err(Refused),
     }
 }
 
-// Whether the reader of plans gives this N, M, count and T.
-pub fn is_plan_head(a: FileRead, n: usize, m: usize, count: usize, trials: u32) -> bool {
-    match a {
-        FileRead::File(h, t) => is_head(h, n, m, count) & (t == trials),
-        FileRead::Refused(_) => false,
+// The head of a file: N, M and the count.
+type HeadTold = (usize, usize, usize);
+
+fn told(head: Head) -> HeadTold {
+    (head.rows, head.columns, head.count)
+}
+
+// Writes a map file and reads it back: its head and its marks.
+pub fn map_again(map: &Map) -> Result<(HeadTold, [u8; 1024]), Refused> {
+    let mut file = [UNWRITTEN; 4096];
+    let length = length_of(writers::write_map(map.rows, map.columns, &map.marks, &mut file))?;
+    let written = file.get(..length).ok_or(Refused)?;
+    let mut marks = [UNWRITTEN; 1024];
+    match readers::read_map(written, &mut marks) {
+        Ok(head) => Ok((told(head), marks)),
+        Err(_) => Err(Refused),
     }
 }
 
-pub fn are_same(a: &[u8], b: &[u8]) -> bool {
-    for p in 0..1024 {
-        if buffers::byte(a, p) != buffers::byte(b, p) {
-            return false;
-        }
+// Writes a plan file with T and reads it back: its head, T and the plan.
+pub fn plan_again(map: &Map, plan: &Plan, trials: u32) -> Result<(HeadTold, u32, Plan), Refused> {
+    let mut file = [UNWRITTEN; 4096];
+    let length = length_of(writers::write_plan(
+        map.rows,
+        map.columns,
+        &plan.directions,
+        trials,
+        &mut file,
+    ))?;
+    let written = file.get(..length).ok_or(Refused)?;
+    let mut directions = [UNWRITTEN; 1024];
+    match readers::read_plan(written, &mut directions) {
+        Ok((head, trials)) => Ok((told(head), trials, Plan { directions })),
+        Err(_) => Err(Refused),
     }
-    true
-}
-
-pub fn are_same_places(a: &[u16], b: &[u16]) -> bool {
-    for p in 0..1024 {
-        if buffers::place(a, p) != buffers::place(b, p) {
-            return false;
-        }
-    }
-    true
-}
-
-pub fn copy(from: &[u8], to: &mut [u8]) {
-    for p in 0..1024 {
-        buffers::put_byte(to, p, buffers::byte(from, p));
-    }
-}
-
-// How many faults a grid has, dead ones among them.
-pub fn count_faults(grid: &[u8]) -> usize {
-    count_of(grid, 1) % 1025 + count_of(grid, 3) % 1025
-}
-
-// How many elements have this value.
-pub fn count_of(b: &[u8], value: u8) -> usize {
-    let mut count = 0;
-    for p in 0..1024 {
-        if buffers::byte(b, p) == value {
-            count = std::num::wrapping_add_usize(count, 1);
-        }
-    }
-    count
 }

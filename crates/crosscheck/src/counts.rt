@@ -1,315 +1,301 @@
 // What is counted, and how it is printed.
-use second::buffers;
+use second::maps::{Map, Mark, Spot};
+use second::planner::Outcome;
+use std::io;
 
-// The descriptor of standard output.
-const STDOUT_FILENO: i32 = 1;
-
-pub const MAPS: usize = 0;
-
-pub const FAULTS: usize = 1;
-
-pub const REPAIRED: usize = 2;
-
-pub const BEYOND: usize = 3;
-
-pub const SPENT: usize = 4;
-
-pub const TRIALS: usize = 5;
-
-pub const LIMITS: usize = 6;
-
-pub const CELLS: usize = 7;
-
-pub const LETTERS_A: usize = 8;
-
-pub const LETTERS_B: usize = 9;
-
-pub const LETTERS_C: usize = 10;
-
-pub const LETTERS_D: usize = 11;
-
-pub const LINKS: usize = 12;
-
-pub const PIECES: usize = 13;
-
-pub const ACCEPTED: usize = 14;
-
-pub const REFUSED_4: usize = 15;
-
-pub const REFUSED_5: usize = 16;
-
-pub const REFUSED_6: usize = 17;
-
-pub const REFUSED_7: usize = 18;
-
-pub const MAP_FILES: usize = 19;
-
-pub const PLAN_FILES: usize = 20;
-
-pub const DIFFERENCES: usize = 21;
-
-pub const SHOWN: usize = 22;
-
-// What differs.
-pub const OUTCOME: usize = 23;
-
-pub const DIRECTIONS: usize = 24;
-
-pub const LIMIT: usize = 25;
-
-pub const CHECK: usize = 26;
-
-pub const PLACEMENT: usize = 27;
-
-pub const SEATS: usize = 28;
-
-pub const SWITCHES: usize = 29;
-
-pub const LINK: usize = 30;
-
-pub const SHARED: usize = 31;
-
-pub const MAP_FILE: usize = 32;
-
-pub const PLAN_FILE: usize = 33;
-
-// Dead processors, and the maps that have one, by outcome.
-pub const DEAD: usize = 34;
-
-pub const DEAD_REPAIRED: usize = 35;
-
-pub const DEAD_BEYOND: usize = 36;
-
-pub const DEAD_SPENT: usize = 37;
-
-// Links to a side without a neighbour, and how many differ.
-pub const ENDS: usize = 38;
-
-pub const END: usize = 39;
-
-// The quick planner's outcomes and trials, and how often it decides where the first planner is spent.
-pub const QUICK_REPAIRED: usize = 40;
-
-pub const QUICK_BEYOND: usize = 41;
-
-pub const QUICK_SPENT: usize = 42;
-
-pub const QUICK_TRIALS: usize = 43;
-
-pub const QUICK_ONLY: usize = 44;
-
-// Maps on which nothing can be settled, by outcome.
-pub const CORES_REPAIRED: usize = 45;
-
-pub const CORES_BEYOND: usize = 46;
-
-pub const CORES_SPENT: usize = 47;
-
-// What differs about the quick planner: verdicts, what it writes, and the answer where nothing can be settled.
-pub const VERDICT: usize = 48;
-
-pub const QUICK_PLAN: usize = 49;
-
-pub const CORE: usize = 50;
-
-// How often the first planner decides where the quick one is spent.
-pub const FIRST_ONLY: usize = 51;
-
-// The exact planner's verdicts, those where nothing can be settled, and how often both other planners are spent.
-pub const EXACT_REPAIRED: usize = 52;
-
-pub const EXACT_BEYOND: usize = 53;
-
-pub const EXACT_CORES_REPAIRED: usize = 54;
-
-pub const EXACT_CORES_BEYOND: usize = 55;
-
-pub const BOTH_SPENT: usize = 56;
-
-// What differs about the exact planner: its answer from the first one's, its verdict from the quick one's, and what it writes.
-pub const EXACT_ANSWER: usize = 57;
-
-pub const EXACT_VERDICT: usize = 58;
-
-pub const EXACT_PLAN: usize = 59;
-
-pub fn get(tally: &[u64], what: usize) -> u64 {
-    if what < tally.len() { tally[what] } else { 0 }
+#[derive(Clone, Copy)]
+pub enum Count {
+    Maps,
+    Faults,
+    Dead,
+    Repaired,
+    Beyond,
+    Spent,
+    Trials,
+    Limits,
+    // Maps with a dead processor, by outcome.
+    DeadRepaired,
+    DeadBeyond,
+    DeadSpent,
+    // The quick planner's outcomes and trials, and how often it or the first planner decides alone.
+    QuickRepaired,
+    QuickBeyond,
+    QuickSpent,
+    QuickTrials,
+    QuickOnly,
+    FirstOnly,
+    // Maps on which nothing can be settled, by outcome.
+    CoresRepaired,
+    CoresBeyond,
+    CoresSpent,
+    // The exact planner's verdicts, those where nothing can be settled, and how often both other planners are spent.
+    ExactRepaired,
+    ExactBeyond,
+    ExactCoresRepaired,
+    ExactCoresBeyond,
+    BothSpent,
+    Cells,
+    LettersA,
+    LettersB,
+    LettersC,
+    LettersD,
+    Links,
+    Pieces,
+    // Links to a side without a neighbour.
+    Ends,
+    // Plan checks, by their finding.
+    Accepted,
+    Misplaced,
+    Blocked,
+    Shared,
+    Passed,
+    MapFiles,
+    PlanFiles,
 }
 
-pub fn add(tally: &mut [u64], what: usize, more: u64) {
-    if what < tally.len() {
-        tally[what] = std::num::wrapping_add_u64(tally[what], more);
-    }
+// The counts of a planner's outcomes.
+#[derive(Clone, Copy)]
+pub struct Outcomes {
+    repaired: Count,
+    beyond: Count,
+    spent: Count,
 }
 
-// Counts a difference unless two things are the same.
-pub fn compare(tally: &mut [u64], same: bool, what: usize) {
-    if same {
-        return;
-    }
-    add(tally, what, 1);
-    add(tally, DIFFERENCES, 1);
-}
+impl Outcomes {
+    pub const FIRST: Outcomes = Outcomes {
+        repaired: Count::Repaired,
+        beyond: Count::Beyond,
+        spent: Count::Spent,
+    };
 
-fn print_number(v: usize) {
-    io::write_all(STDOUT_FILENO, b" ");
-    io::print_decimal(STDOUT_FILENO, v as u64);
-}
+    pub const DEAD: Outcomes = Outcomes {
+        repaired: Count::DeadRepaired,
+        beyond: Count::DeadBeyond,
+        spent: Count::DeadSpent,
+    };
 
-// Prints the row and column of everything that has this mark.
-fn print_marked(grid: &[u8], mark: u8) {
-    for p in 0..1024 {
-        if buffers::byte(grid, p) == mark {
-            print_number(p / 32);
-            print_number(p % 32);
+    pub const QUICK: Outcomes = Outcomes {
+        repaired: Count::QuickRepaired,
+        beyond: Count::QuickBeyond,
+        spent: Count::QuickSpent,
+    };
+
+    pub const CORES: Outcomes = Outcomes {
+        repaired: Count::CoresRepaired,
+        beyond: Count::CoresBeyond,
+        spent: Count::CoresSpent,
+    };
+    // The exact planner is never spent.
+    pub const EXACT: Outcomes = Outcomes {
+        repaired: Count::ExactRepaired,
+        beyond: Count::ExactBeyond,
+        spent: Count::ExactBeyond,
+    };
+
+    pub const EXACT_CORES: Outcomes = Outcomes {
+        repaired: Count::ExactCoresRepaired,
+        beyond: Count::ExactCoresBeyond,
+        spent: Count::ExactCoresBeyond,
+    };
+
+    fn of(self, outcome: Outcome) -> Count {
+        match outcome {
+            Outcome::Repaired => self.repaired,
+            Outcome::Beyond => self.beyond,
+            Outcome::Spent => self.spent,
         }
     }
 }
 
+// What differs.
+#[derive(Clone, Copy)]
+pub enum Difference {
+    Outcome,
+    Directions,
+    Limit,
+    Check,
+    // Of the quick planner: verdicts, what it writes, and the answer where nothing can be settled.
+    Verdict,
+    QuickPlan,
+    Core,
+    // Of the exact planner: its answer from the first one's, its verdict from the quick one's, and what it writes.
+    ExactAnswer,
+    ExactVerdict,
+    ExactPlan,
+    Placement,
+    Seats,
+    Switches,
+    Link,
+    Shared,
+    End,
+    MapFile,
+    PlanFile,
+    Refusal,
+}
+
+// The lines of the counts, in the order in which they are printed.
+const COUNTS: [(Count, &str); 40] = [
+    (Count::Maps, "maps"),
+    (Count::Faults, "faults"),
+    (Count::Dead, "dead"),
+    (Count::Repaired, "repaired"),
+    (Count::Beyond, "beyond"),
+    (Count::Spent, "spent"),
+    (Count::Trials, "trials"),
+    (Count::Limits, "limits tried again"),
+    (Count::DeadRepaired, "repaired with a dead processor"),
+    (Count::DeadBeyond, "beyond with a dead processor"),
+    (Count::DeadSpent, "spent with a dead processor"),
+    (Count::QuickRepaired, "quickly repaired"),
+    (Count::QuickBeyond, "quickly beyond"),
+    (Count::QuickSpent, "quickly spent"),
+    (Count::QuickTrials, "quick trials"),
+    (Count::QuickOnly, "spent for the first planner alone"),
+    (Count::FirstOnly, "spent for the quick planner alone"),
+    (Count::CoresRepaired, "repaired with nothing settled"),
+    (Count::CoresBeyond, "beyond with nothing settled"),
+    (Count::CoresSpent, "spent with nothing settled"),
+    (Count::ExactRepaired, "exactly repaired"),
+    (Count::ExactBeyond, "exactly beyond"),
+    (
+        Count::ExactCoresRepaired,
+        "exactly repaired with nothing settled",
+    ),
+    (
+        Count::ExactCoresBeyond,
+        "exactly beyond with nothing settled",
+    ),
+    (Count::BothSpent, "decided by the exact planner alone"),
+    (Count::Cells, "cells placed"),
+    (Count::LettersA, "switches at a"),
+    (Count::LettersB, "switches at b"),
+    (Count::LettersC, "switches at c"),
+    (Count::LettersD, "switches at d"),
+    (Count::Links, "links followed"),
+    (Count::Pieces, "pieces of track"),
+    (Count::Ends, "links without a neighbour"),
+    (Count::Accepted, "plans accepted"),
+    (Count::Misplaced, "plans refused with 4"),
+    (Count::Blocked, "plans refused with 5"),
+    (Count::Shared, "plans refused with 6"),
+    (Count::Passed, "plans refused with 7"),
+    (Count::MapFiles, "map files read back"),
+    (Count::PlanFiles, "plan files read back"),
+];
+
+// The lines of what differs, each printed only where something does.
+const DIFFERENCES: [(Difference, &str); 19] = [
+    (Difference::Outcome, "outcomes"),
+    (Difference::Directions, "directions"),
+    (Difference::Limit, "limits"),
+    (Difference::Check, "plan checks"),
+    (Difference::Verdict, "verdicts of the two planners"),
+    (Difference::QuickPlan, "quick plans"),
+    (Difference::Core, "answers with nothing settled"),
+    (Difference::ExactAnswer, "exact answers"),
+    (Difference::ExactVerdict, "exact verdicts"),
+    (Difference::ExactPlan, "exact plans"),
+    (Difference::Placement, "placements"),
+    (Difference::Seats, "seats"),
+    (Difference::Switches, "switches"),
+    (Difference::Link, "links"),
+    (Difference::Shared, "shared pieces"),
+    (Difference::End, "links without a neighbour"),
+    (Difference::MapFile, "map files"),
+    (Difference::PlanFile, "plan files"),
+    (Difference::Refusal, "refusals"),
+];
+
+// How many maps with differences are printed.
+const MOST_SHOWN: u64 = 5;
+
+#[derive(Clone, Copy)]
+pub struct Tally {
+    counts: [u64; 40],
+    differences: [u64; 19],
+    // How many differences there are in all.
+    total: u64,
+    // How many maps have a difference.
+    different: u64,
+}
+
+impl Tally {
+    pub const NEW: Tally = Tally {
+        counts: [0; 40],
+        differences: [0; 19],
+        total: 0,
+        different: 0,
+    };
+
+    pub fn get(&self, what: Count) -> u64 {
+        self.counts[what as usize]
+    }
+
+    pub fn add(&mut self, what: Count, more: u64) {
+        self.counts[what as usize] = self.counts[what as usize].wrapping_add(more);
+    }
+
+    pub fn add_outcome(&mut self, counts: Outcomes, outcome: Outcome) {
+        self.add(counts.of(outcome), 1);
+    }
+
+    // Counts a difference unless two things are the same.
+    pub fn compare(&mut self, is_same: bool, what: Difference) {
+        if !is_same {
+            self.differences[what as usize] = self.differences[what as usize].wrapping_add(1);
+            self.total = self.total.wrapping_add(1);
+        }
+    }
+
+    pub fn total(&self) -> u64 {
+        self.total
+    }
+
+    // Prints the map where there are more differences than before it, for the first few such maps.
+    pub fn show<R: Print>(&mut self, rt: &R, before: u64, map: &Map) -> io::Result<()> {
+        if self.total == before {
+            return Ok(());
+        }
+        self.different = self.different.wrapping_add(1);
+        if self.different <= MOST_SHOWN {
+            print_map(rt, self.get(Count::Maps), map)?;
+        }
+        Ok(())
+    }
+
+    // Prints every count on its own line, and how often something differs, if it does.
+    pub fn print<R: Print>(&self, rt: &R) -> io::Result<()> {
+        for (what, words) in &COUNTS {
+            println!(rt; "{} {}", *words, self.get(*what))?;
+        }
+        for (what, words) in &DIFFERENCES {
+            let count = self.differences[*what as usize];
+            if count != 0 {
+                println!(rt; "different {} {count}", *words)?;
+            }
+        }
+        println!(rt; "differences {}", self.total)
+    }
+}
+
+// Prints the row and column of everything that has this mark.
+fn print_marked<R: Print>(rt: &R, map: &Map, mark: Mark) -> io::Result<()> {
+    for spot in (0..1024).map(Spot::at) {
+        if map.mark(spot) == mark {
+            print!(rt; " {} {}", spot.row, spot.column)?;
+        }
+    }
+    Ok(())
+}
+
 // Prints a map: its number, N, M, the faults and the dead processors.
-fn print_map(number: u64, n: usize, m: usize, grid: &[u8]) {
-    io::write_all(STDOUT_FILENO, b"difference at map ");
-    io::print_decimal(STDOUT_FILENO, number);
-    io::write_all(STDOUT_FILENO, b":");
-    print_number(n);
-    print_number(m);
-    io::write_all(STDOUT_FILENO, b" faults");
-    print_marked(grid, 1);
-    io::write_all(STDOUT_FILENO, b" dead");
-    print_marked(grid, 3);
-    io::write_all(STDOUT_FILENO, b"\n");
-}
-
-// Prints the map where there are more differences than before it, for the first few such maps.
-pub fn show(tally: &mut [u64], before: u64, n: usize, m: usize, grid: &[u8]) {
-    if get(tally, DIFFERENCES) == before {
-        return;
-    }
-    add(tally, SHOWN, 1);
-    if get(tally, SHOWN) <= 5 {
-        print_map(get(tally, MAPS), n, m, grid);
-    }
-}
-
-fn print_count(tally: &[u64], word: &[u8], what: usize) {
-    io::write_all(STDOUT_FILENO, word);
-    io::write_all(STDOUT_FILENO, b" ");
-    io::print_decimal(STDOUT_FILENO, get(tally, what));
-    io::write_all(STDOUT_FILENO, b"\n");
-}
-
-fn print_plans(tally: &[u64]) {
-    print_count(tally, b"maps", MAPS);
-    print_count(tally, b"faults", FAULTS);
-    print_count(tally, b"dead", DEAD);
-    print_count(tally, b"repaired", REPAIRED);
-    print_count(tally, b"beyond", BEYOND);
-    print_count(tally, b"spent", SPENT);
-    print_count(tally, b"trials", TRIALS);
-    print_count(tally, b"limits tried again", LIMITS);
-    print_count(tally, b"repaired with a dead processor", DEAD_REPAIRED);
-    print_count(tally, b"beyond with a dead processor", DEAD_BEYOND);
-    print_count(tally, b"spent with a dead processor", DEAD_SPENT);
-}
-
-fn print_quick(tally: &[u64]) {
-    print_count(tally, b"quickly repaired", QUICK_REPAIRED);
-    print_count(tally, b"quickly beyond", QUICK_BEYOND);
-    print_count(tally, b"quickly spent", QUICK_SPENT);
-    print_count(tally, b"quick trials", QUICK_TRIALS);
-    print_count(tally, b"spent for the first planner alone", QUICK_ONLY);
-    print_count(tally, b"spent for the quick planner alone", FIRST_ONLY);
-    print_count(tally, b"repaired with nothing settled", CORES_REPAIRED);
-    print_count(tally, b"beyond with nothing settled", CORES_BEYOND);
-    print_count(tally, b"spent with nothing settled", CORES_SPENT);
-}
-
-fn print_exact(tally: &[u64]) {
-    print_count(tally, b"exactly repaired", EXACT_REPAIRED);
-    print_count(tally, b"exactly beyond", EXACT_BEYOND);
-    print_count(
-        tally,
-        b"exactly repaired with nothing settled",
-        EXACT_CORES_REPAIRED,
-    );
-    print_count(
-        tally,
-        b"exactly beyond with nothing settled",
-        EXACT_CORES_BEYOND,
-    );
-    print_count(tally, b"decided by the exact planner alone", BOTH_SPENT);
-}
-
-fn print_track(tally: &[u64]) {
-    print_count(tally, b"cells placed", CELLS);
-    print_count(tally, b"switches at a", LETTERS_A);
-    print_count(tally, b"switches at b", LETTERS_B);
-    print_count(tally, b"switches at c", LETTERS_C);
-    print_count(tally, b"switches at d", LETTERS_D);
-    print_count(tally, b"links followed", LINKS);
-    print_count(tally, b"pieces of track", PIECES);
-    print_count(tally, b"links without a neighbour", ENDS);
-}
-
-fn print_checks(tally: &[u64]) {
-    print_count(tally, b"plans accepted", ACCEPTED);
-    print_count(tally, b"plans refused with 4", REFUSED_4);
-    print_count(tally, b"plans refused with 5", REFUSED_5);
-    print_count(tally, b"plans refused with 6", REFUSED_6);
-    print_count(tally, b"plans refused with 7", REFUSED_7);
-    print_count(tally, b"map files read back", MAP_FILES);
-    print_count(tally, b"plan files read back", PLAN_FILES);
-}
-
-// Prints how often something differs, if it does.
-fn print_kind(tally: &[u64], word: &[u8], what: usize) {
-    if get(tally, what) != 0 {
-        io::write_all(STDOUT_FILENO, b"different ");
-        print_count(tally, word, what);
-    }
-}
-
-fn print_plan_kinds(tally: &[u64]) {
-    print_kind(tally, b"outcomes", OUTCOME);
-    print_kind(tally, b"directions", DIRECTIONS);
-    print_kind(tally, b"limits", LIMIT);
-    print_kind(tally, b"plan checks", CHECK);
-}
-
-fn print_quick_kinds(tally: &[u64]) {
-    print_kind(tally, b"verdicts of the two planners", VERDICT);
-    print_kind(tally, b"quick plans", QUICK_PLAN);
-    print_kind(tally, b"answers with nothing settled", CORE);
-}
-
-fn print_exact_kinds(tally: &[u64]) {
-    print_kind(tally, b"exact answers", EXACT_ANSWER);
-    print_kind(tally, b"exact verdicts", EXACT_VERDICT);
-    print_kind(tally, b"exact plans", EXACT_PLAN);
-}
-
-fn print_track_kinds(tally: &[u64]) {
-    print_kind(tally, b"placements", PLACEMENT);
-    print_kind(tally, b"seats", SEATS);
-    print_kind(tally, b"switches", SWITCHES);
-    print_kind(tally, b"links", LINK);
-    print_kind(tally, b"shared pieces", SHARED);
-    print_kind(tally, b"links without a neighbour", END);
-    print_kind(tally, b"map files", MAP_FILE);
-    print_kind(tally, b"plan files", PLAN_FILE);
-}
-
-// Prints every count on its own line.
-pub fn print(tally: &[u64]) {
-    print_plans(tally);
-    print_quick(tally);
-    print_exact(tally);
-    print_track(tally);
-    print_checks(tally);
-    print_plan_kinds(tally);
-    print_quick_kinds(tally);
-    print_exact_kinds(tally);
-    print_track_kinds(tally);
-    print_count(tally, b"differences", DIFFERENCES);
+fn print_map<R: Print>(rt: &R, number: u64, map: &Map) -> io::Result<()> {
+    print!(rt;
+        "difference at map {number}: {} {} faults",
+        map.rows, map.columns
+    )?;
+    print_marked(rt, map, Mark::Faulty)?;
+    print!(rt; " dead")?;
+    print_marked(rt, map, Mark::Dead)?;
+    println!(rt; "")
 }

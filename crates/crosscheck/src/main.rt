@@ -10,172 +10,136 @@ mod quick;
 mod random;
 mod repaired;
 
+ghost use Rattle.std.specs.Prelude.{◌≤◌};
+
+use answers::Refused;
+use counts::{Count, Difference, Tally};
+use random::Random;
+use second::links::Marks;
+use second::maps::{Map, Mark, Plan};
+use second::planner::Outcome;
+use std::io;
+
 // How many maps are compared.
 const MAPS: usize = 20000;
 
-// What follows where a map is repaired.
-fn cross_repaired(
-    found: bool,
-    seed: &mut u64,
-    n: usize,
-    m: usize,
-    grid: &[u8],
-    directions: &[u8],
-    marks: &mut [u32],
-    tally: &mut [u64],
-) {
-    if !found {
-        return;
-    }
-    planning::cross_check(n, m, grid, directions, tally);
-    repaired::cross_track(n, m, grid, directions, marks, tally);
-    files::cross_plan(n, m, directions, tally);
-    planning::cross_altered(seed, n, m, grid, directions, tally);
-    planning::cross_altered(seed, n, m, grid, directions, tally);
-    planning::cross_altered(seed, n, m, grid, directions, tally);
-}
-
-// The planners, and the rest of a repair.
-fn cross_repair(
-    seed: &mut u64,
-    n: usize,
-    m: usize,
+// One map to compare, with a generator of its own.
+#[derive(Clone, Copy)]
+struct Case {
+    random: Random,
+    map: Map,
+    // The limit of the planners.
     limit: u32,
-    grid: &[u8],
-    directions: &mut [u8],
-    marks: &mut [u32],
-    tally: &mut [u64],
-) {
-    let found = planning::cross_plan(n, m, grid, directions, limit, tally);
-    cross_repaired(found, seed, n, m, grid, directions, marks, tally);
+    // Whether the track of the quick planner's plan is compared, too.
+    is_tracked: bool,
 }
 
-// What follows where the quick planner repairs a map.
-fn cross_found(
-    found: bool,
-    n: usize,
-    m: usize,
-    grid: &[u8],
-    directions: &[u8],
-    marks: &mut [u32],
-    tally: &mut [u64],
-) {
-    if !found {
-        return;
-    }
-    planning::cross_check(n, m, grid, directions, tally);
-    repaired::cross_track(n, m, grid, directions, marks, tally);
-}
-
-// The quick planner, and where it is asked for the rest of a repair by its plan.
-fn cross_quickly(
-    tracked: bool,
-    n: usize,
-    m: usize,
-    limit: u32,
-    grid: &[u8],
-    marks: &mut [u32],
-    tally: &mut [u64],
-) {
-    let mut directions = [9u8; 1024];
-    let found = quick::cross_verdict(n, m, grid, limit, &mut directions, tally);
-    quick::cross_written(counts::QUICK_PLAN, found, n, m, grid, &directions, tally);
-    cross_found(found & tracked, n, m, grid, &directions, marks, tally);
-}
-
-// The quick and the exact planner.
-fn cross_planners(
-    tracked: bool,
-    n: usize,
-    m: usize,
-    limit: u32,
-    grid: &[u8],
-    marks: &mut [u32],
-    tally: &mut [u64],
-) {
-    cross_quickly(tracked, n, m, limit, grid, marks, tally);
-    exactly::cross_map(n, m, grid, tally);
-}
-
-// The planners on the same map with the spares of all outermost faults faulty.
-fn cross_core(n: usize, m: usize, grid: &[u8], limit: u32, tally: &mut [u64]) {
-    let mut core = [9u8; 1024];
-    answers::copy(grid, &mut core);
-    quick::close_sides(n, m, &mut core);
-    quick::cross_closed(n, m, &core, limit, tally);
-    exactly::cross_closed(n, m, &core, tally);
-}
-
-// What needs no plan.
-fn cross_others(seed: &mut u64, n: usize, m: usize, limit: u32, grid: &[u8], tally: &mut [u64]) {
-    cross_core(n, m, grid, limit, tally);
-    planning::cross_choice(seed, n, m, grid, tally);
-    planning::cross_choice(seed, n, m, grid, tally);
-    files::cross_map(n, m, grid, tally);
-    files::cross_paths(seed, n, m, tally);
-}
-
-// Counts a map and its faults.
-fn count_map(grid: &[u8], tally: &mut [u64]) {
-    counts::add(tally, counts::MAPS, 1);
-    counts::add(tally, counts::FAULTS, answers::count_faults(grid) as u64);
-    counts::add(tally, counts::DEAD, answers::count_of(grid, 3) as u64);
-}
-
-// One map, over room for its directions.
-fn cross_map(
-    seed: &mut u64,
-    n: usize,
-    m: usize,
-    limit: u32,
-    tracked: bool,
-    grid: &[u8],
-    directions: &mut [u8],
-    marks: &mut [u32],
-    tally: &mut [u64],
-) {
-    let before = counts::get(tally, counts::DIFFERENCES);
-    count_map(grid, tally);
-    cross_repair(seed, n, m, limit, grid, directions, marks, tally);
-    cross_planners(tracked, n, m, limit, grid, marks, tally);
-    cross_others(seed, n, m, limit, grid, tally);
-    counts::show(tally, before, n, m, grid);
-}
-
-// One map, with a generator of its own.
-fn cross_size(start: u64, i: usize, marks: &mut [u32], tally: &mut [u64]) {
-    let mut seed = start;
-    let mut grid = [9u8; 1024];
-    let mut directions = [9u8; 1024];
-    let n = random::draw_size(&mut seed, i);
-    let m = random::draw_size(&mut seed, i);
-    let limit = random::limit_of(i);
-    let tracked = i % 6 == 1;
-    random::fill_map(&mut seed, n, m, &mut grid);
-    cross_map(
-        &mut seed,
-        n,
-        m,
-        limit,
-        tracked,
-        &grid,
-        &mut directions,
-        marks,
-        tally,
-    );
-}
-
-fn cross_all(marks: &mut [u32], tally: &mut [u64]) {
-    let mut seeds: u64 = 88172645463325252;
-    for i in 0..MAPS {
-        let start = random::step(&mut seeds);
-        cross_size(start, i, marks, tally);
+impl Case {
+    // The case of a number, from a generator.
+    fn draw(mut random: Random, number: usize) -> Case {
+        let rows = random.draw_size(number);
+        let columns = random.draw_size(number);
+        let map = random.draw_map(rows, columns);
+        Case {
+            random,
+            map,
+            limit: random::limit_of(number),
+            is_tracked: number % 6 == 1,
+        }
     }
 }
 
-fn main() {
-    let mut marks = [0u32; 40964];
-    let mut tally = [0u64; 64];
-    cross_all(&mut marks, &mut tally);
-    counts::print(&tally);
+// The comparison of all maps: the marks of the pieces of track, and what is counted.
+#[derive(Clone, Copy)]
+struct Comparison {
+    marks: Marks,
+    tally: Tally,
+}
+
+impl Comparison {
+    // A plan of a map, and its placement, switches and links.
+    fn cross_plan(&mut self, map: &Map, plan: &Plan) -> Result<(), Refused> {
+        planning::cross_check(map, plan, &mut self.tally);
+        repaired::cross_track(map, plan, &mut self.marks, &mut self.tally)
+    }
+
+    // The first planner, and where it repairs the map, its plan, also altered.
+    fn cross_first(&mut self, case: &mut Case) -> Result<(), Refused> {
+        let first = planning::cross_plan(&case.map, case.limit, &mut self.tally)?;
+        if first.outcome != Outcome::Repaired {
+            return Ok(());
+        }
+        self.cross_plan(&case.map, &first.plan)?;
+        files::cross_plan(&case.map, &first.plan, &mut self.tally)?;
+        for _ in 0..3 {
+            planning::cross_altered(&mut case.random, &case.map, &first.plan, &mut self.tally);
+        }
+        Ok(())
+    }
+
+    // The quick planner, and where it repairs the map and it is asked for, its plan.
+    fn cross_quick(&mut self, case: &Case) -> Result<(), Refused> {
+        let quick = quick::cross_verdict(&case.map, case.limit, &mut self.tally)?;
+        quick::cross_written(&case.map, &quick, Difference::QuickPlan, &mut self.tally);
+        if case.is_tracked && quick.outcome == Outcome::Repaired {
+            self.cross_plan(&case.map, &quick.plan)?;
+        }
+        Ok(())
+    }
+
+    // The planners on the same map with the spares of all outermost faults faulty.
+    fn cross_core(&mut self, case: &Case) -> Result<(), Refused> {
+        let core = quick::closed(&case.map);
+        quick::cross_closed(&core, case.limit, &mut self.tally)?;
+        exactly::cross_closed(&core, &mut self.tally)
+    }
+
+    // What needs no plan.
+    fn cross_others(&mut self, case: &mut Case) -> Result<(), Refused> {
+        planning::cross_choice(&mut case.random, &case.map, &mut self.tally);
+        planning::cross_choice(&mut case.random, &case.map, &mut self.tally);
+        files::cross_map(&case.map, &mut self.tally)?;
+        files::cross_paths(&mut case.random, &case.map, &mut self.tally)
+    }
+
+    fn cross(&mut self, case: &mut Case) -> Result<(), Refused> {
+        self.tally.add(Count::Maps, 1);
+        self.tally.add(Count::Faults, case.map.faults() as u64);
+        self.tally
+            .add(Count::Dead, case.map.count(Mark::Dead) as u64);
+        self.cross_first(case)?;
+        self.cross_quick(case)?;
+        exactly::cross_map(&case.map, &mut self.tally)?;
+        self.cross_core(case)?;
+        self.cross_others(case)
+    }
+
+    // All maps. Those on which something differs are printed.
+    fn cross_all<R: Print>(&mut self, rt: &R) -> io::Result<()> {
+        let mut seeds = Random {
+            state: 88172645463325252,
+        };
+        for number in 0..MAPS {
+            let mut case = Case::draw(
+                Random {
+                    state: seeds.step(),
+                },
+                number,
+            );
+            let before = self.tally.total();
+            let crossed = self.cross(&mut case);
+            self.tally.compare(crossed.is_ok(), Difference::Refusal);
+            self.tally.show(rt, before, &case.map)?;
+        }
+        Ok(())
+    }
+}
+
+fn main(rt: HostRuntime) -> io::Result<()> {
+    let mut comparison = Comparison {
+        marks: Marks::new(),
+        tally: Tally::NEW,
+    };
+    comparison.cross_all(&rt)?;
+    comparison.tally.print(&rt)
 }

@@ -1,137 +1,84 @@
 // Planners and plan checks compared.
-use crate::counts::compare;
-use crate::{answers, counts, random};
-use second::checks;
-use second::planner::Planned;
-
-fn are_equal(a: Planned, b: Planned) -> bool {
-    (a.outcome == b.outcome) & (a.count == b.count)
-}
+use crate::answers::{Refused, checked, planned};
+use crate::counts::{Count, Difference, Outcomes, Tally};
+use crate::random::Random;
+use repair::Planner;
+use second::checks::{Finding, check};
+use second::maps::{Map, Mark, Plan};
+use second::planner::{Outcome, Planned, plan};
 
 // Both planners under a limit.
-fn cross_limit(
-    n: usize,
-    m: usize,
-    grid: &[u8],
-    directions: &mut [u8],
-    limit: u32,
-    tally: &mut [u64],
-) -> Planned {
-    let mut own = [0u8; 1024];
-    let a = answers::planned(n, m, grid, directions, limit);
-    let b = second::planner::plan(n, m, grid, &mut own, limit);
-    let same = answers::are_same(directions, &own);
-    compare(tally, are_equal(a, b), counts::OUTCOME);
-    compare(tally, same, counts::DIRECTIONS);
-    a
+fn cross_limit(map: &Map, limit: u32, tally: &mut Tally) -> Result<Planned, Refused> {
+    let first = planned(Planner::Trials, map, limit)?;
+    let second = plan(map, limit);
+    let is_same = first.outcome == second.outcome && first.trials == second.trials;
+    tally.compare(is_same, Difference::Outcome);
+    tally.compare(first.plan == second.plan, Difference::Directions);
+    Ok(first)
 }
 
-// T is enough for a limit: nothing changes.
-fn cross_enough(n: usize, m: usize, grid: &[u8], directions: &[u8], a: Planned, tally: &mut [u64]) {
-    let mut again = [9u8; 1024];
-    let b = cross_limit(n, m, grid, &mut again, a.count, tally);
-    let same = are_equal(a, b) & answers::are_same(directions, &again);
-    compare(tally, same, counts::LIMIT);
-    counts::add(tally, counts::LIMITS, 1);
+// Both planners again under another limit, and what is to come of it.
+fn cross_again(map: &Map, limit: u32, wanted: &Planned, tally: &mut Tally) -> Result<(), Refused> {
+    let again = cross_limit(map, limit, tally)?;
+    tally.compare(again == *wanted, Difference::Limit);
+    tally.add(Count::Limits, 1);
+    Ok(())
 }
 
-// One trial less than T is spent, with no direction written.
-fn cross_short(n: usize, m: usize, grid: &[u8], t: u32, tally: &mut [u64]) {
-    if t == 0 {
-        return;
+// T is enough for a limit: nothing changes. One trial less is spent, with no direction written.
+fn cross_limits(map: &Map, first: &Planned, tally: &mut Tally) -> Result<(), Refused> {
+    cross_again(map, first.trials, first, tally)?;
+    if let Some(limit) = first.trials.checked_sub(1) {
+        let spent = Planned {
+            outcome: Outcome::Spent,
+            trials: limit,
+            plan: Plan::EMPTY,
+        };
+        cross_again(map, limit, &spent, tally)?;
     }
-    let spent = Planned {
-        outcome: 2,
-        count: t - 1,
-    };
-    let mut again = [9u8; 1024];
-    let b = cross_limit(n, m, grid, &mut again, t - 1, tally);
-    let same = are_equal(spent, b) & (answers::count_of(&again, 0) == 1024);
-    compare(tally, same, counts::LIMIT);
-    counts::add(tally, counts::LIMITS, 1);
+    Ok(())
 }
 
-fn count_of_outcome(outcome: u8) -> usize {
-    match outcome {
-        0 => counts::REPAIRED,
-        1 => counts::BEYOND,
-        _ => counts::SPENT,
+// Both planners, and again with the limits T and T - 1.
+pub fn cross_plan(map: &Map, limit: u32, tally: &mut Tally) -> Result<Planned, Refused> {
+    let first = cross_limit(map, limit, tally)?;
+    tally.add_outcome(Outcomes::FIRST, first.outcome);
+    if map.count(Mark::Dead) != 0 {
+        tally.add_outcome(Outcomes::DEAD, first.outcome);
     }
+    tally.add(Count::Trials, u64::from(first.trials));
+    if !first.is_spent() {
+        cross_limits(map, &first, tally)?;
+    }
+    Ok(first)
 }
 
-fn count_of_dead(outcome: u8) -> usize {
-    match outcome {
-        0 => counts::DEAD_REPAIRED,
-        1 => counts::DEAD_BEYOND,
-        _ => counts::DEAD_SPENT,
+fn count_of(checked: Result<(), Finding>) -> Count {
+    match checked {
+        Ok(()) => Count::Accepted,
+        Err(Finding::Misplaced(_)) => Count::Misplaced,
+        Err(Finding::Blocked(_)) => Count::Blocked,
+        Err(Finding::Shared(_, _)) => Count::Shared,
+        Err(Finding::Passed(_, _)) => Count::Passed,
     }
 }
 
-// Counts an outcome, once more where the map has a dead processor.
-fn count_outcome(grid: &[u8], outcome: u8, tally: &mut [u64]) {
-    counts::add(tally, count_of_outcome(outcome), 1);
-    if answers::count_of(grid, 3) != 0 {
-        counts::add(tally, count_of_dead(outcome), 1);
-    }
-}
-
-// Both planners, and again with the limits T and T - 1. Answers whether the map is repaired.
-pub fn cross_plan(
-    n: usize,
-    m: usize,
-    grid: &[u8],
-    directions: &mut [u8],
-    limit: u32,
-    tally: &mut [u64],
-) -> bool {
-    let a = cross_limit(n, m, grid, directions, limit, tally);
-    count_outcome(grid, a.outcome, tally);
-    counts::add(tally, counts::TRIALS, a.count as u64);
-    if 2 <= a.outcome {
-        return false;
-    }
-    cross_enough(n, m, grid, directions, a, tally);
-    cross_short(n, m, grid, a.count, tally);
-    a.outcome == 0
-}
-
-fn count_of_number(number: u8) -> usize {
-    match number {
-        0 => counts::ACCEPTED,
-        4 => counts::REFUSED_4,
-        5 => counts::REFUSED_5,
-        6 => counts::REFUSED_6,
-        _ => counts::REFUSED_7,
-    }
-}
-
-// Both plan checks of some directions.
-pub fn cross_check(n: usize, m: usize, grid: &[u8], directions: &[u8], tally: &mut [u64]) {
-    let a = answers::checked(n, m, grid, directions);
-    let b = checks::check(n, m, grid, directions);
-    let same = (a.number == b.number) & ((a.place == b.place) & (a.second == b.second));
-    compare(tally, same, counts::CHECK);
-    counts::add(tally, count_of_number(b.number), 1);
+// Both plan checks.
+pub fn cross_check(map: &Map, plan: &Plan, tally: &mut Tally) {
+    let second = check(map, plan);
+    let told = second.err().map(|finding| finding.told());
+    tally.compare(checked(map, plan) == told, Difference::Check);
+    tally.add(count_of(second), 1);
 }
 
 // A plan with one direction altered.
-pub fn cross_altered(
-    seed: &mut u64,
-    n: usize,
-    m: usize,
-    grid: &[u8],
-    directions: &[u8],
-    tally: &mut [u64],
-) {
-    let mut altered = [0u8; 1024];
-    answers::copy(directions, &mut altered);
-    random::alter(seed, n, m, &mut altered);
-    cross_check(n, m, grid, &altered, tally);
+pub fn cross_altered(random: &mut Random, map: &Map, plan: &Plan, tally: &mut Tally) {
+    let altered = random.alter(map, plan);
+    cross_check(map, &altered, tally);
 }
 
 // A random direction for every inner fault.
-pub fn cross_choice(seed: &mut u64, n: usize, m: usize, grid: &[u8], tally: &mut [u64]) {
-    let mut directions = [0u8; 1024];
-    random::fill_choice(seed, n, m, grid, &mut directions);
-    cross_check(n, m, grid, &directions, tally);
+pub fn cross_choice(random: &mut Random, map: &Map, tally: &mut Tally) {
+    let plan = random.draw_choice(map);
+    cross_check(map, &plan, tally);
 }

@@ -1,38 +1,275 @@
-// Random numbers and random maps. The numbers are those of Marsaglia's xorshift with 64 bits.
-use second::buffers;
+// Random numbers, maps and plans.
+ghost use Rattle.std.specs.Prelude.{◌-◌, ◌<◌, ◌≤◌};
 
-// The next number.
-pub fn step(seed: &mut u64) -> u64 {
-    let x = *seed;
-    let a = x ^ (x << 13);
-    let b = a ^ (a >> 7);
-    let c = b ^ (b << 17);
-    *seed = c;
-    c
+use second::maps::{Direction, Map, Mark, Path, Plan, Spot};
+
+// Where the faults of a map fall.
+#[derive(Clone, Copy)]
+enum Kind {
+    Anywhere,
+    Inner,
+    // Near the middle of a cluster.
+    Near,
+    // On the rim or beside it, by the row or by the column.
+    RimRow,
+    RimColumn,
+    // On the row or the column of the middle.
+    Row,
+    Column,
 }
 
-// A number below k, or 0 where k is 0.
-pub fn draw(seed: &mut u64, k: u8) -> u8 {
-    let x = ((step(seed) >> 11) % 256) as u8;
-    if k == 0 {
-        return 0;
-    }
-    x % k
+const KINDS: [Kind; 7] = [
+    Kind::Anywhere,
+    Kind::Inner,
+    Kind::Near,
+    Kind::RimRow,
+    Kind::RimColumn,
+    Kind::Row,
+    Kind::Column,
+];
+
+// How the faults of a map are drawn: their kind, or none where each has its own, the middle of a cluster, and of how many
+// inner faults one is dead, if any is.
+#[derive(Clone, Copy)]
+struct Style {
+    kind: Option<Kind>,
+    middle: Spot,
+    share: Option<usize>,
 }
 
-// A size: of 64 maps one is large, 11 are of middle size and 8 very small.
-pub fn draw_size(seed: &mut u64, map: usize) -> usize {
-    let i = map % 64;
-    if i == 0 {
-        return 20 + (draw(seed, 11) as usize) % 11;
+// A generator of random numbers, Marsaglia's xorshift with 64 bits.
+#[derive(Clone, Copy)]
+pub struct Random {
+    pub state: u64,
+}
+
+impl Random {
+    // The next number.
+    pub fn step(&mut self) -> u64 {
+        let mut x = self.state;
+        x ^= x << 13;
+        x ^= x >> 7;
+        x ^= x << 17;
+        self.state = x;
+        x
     }
-    if i < 12 {
-        return 7 + (draw(seed, 8) as usize) % 8;
+
+    // A number below k, at most 256, or 0 where k is 0.
+    pub fn draw(&mut self, k: usize) -> usize
+        ensures { result ≤ k - 1 }
+    {
+        let x = (self.step() >> 11) % 256;
+        if k == 0 { 0 } else { x as usize % k }
     }
-    if i < 20 {
-        return 1 + (draw(seed, 4) as usize) % 4;
+
+    fn draw_direction(&mut self) -> Direction {
+        Direction::ALL[self.draw(4)]
     }
-    1 + (draw(seed, 7) as usize) % 7
+
+    // A size: of 64 maps one is large, 11 are of middle size and 8 very small.
+    pub fn draw_size(&mut self, map: usize) -> usize
+        ensures { result ≤ 30 }
+    {
+        match map % 64 {
+            0 => 20 + self.draw(11),
+            1..=11 => 7 + self.draw(8),
+            12..=19 => 1 + self.draw(4),
+            _ => 1 + self.draw(7),
+        }
+    }
+
+    // How many faults are drawn, most often near the number up to which maps of this size are repaired.
+    fn draw_count(&mut self, map: &Map) -> usize {
+        let sides = map.rows + map.columns;
+        match self.draw(8) {
+            0 => self.draw(4),
+            1..=2 => sides / 2 + self.draw(sides + 1),
+            3..=5 => sides + self.draw(sides + 1),
+            6 => sides + self.draw(2 * sides + 1),
+            _ => self.draw(4 * sides + 1),
+        }
+    }
+
+    // A row or column of the array, rim included.
+    fn draw_line(&mut self, k: usize) -> usize
+        requires { k ≤ 30 }
+        ensures { result < 32 }
+    {
+        self.draw(k + 2)
+    }
+
+    // An inner row or column.
+    fn draw_inner(&mut self, k: usize) -> usize
+        requires { k ≤ 30 }
+        ensures { result < 32 }
+    {
+        1 + self.draw(k)
+    }
+
+    // A row or column within 2 of another one, wrapped at 32.
+    fn draw_near(&mut self, i: usize) -> usize
+        requires { i < 32 }
+        ensures { result < 32 }
+    {
+        (i + 30 + self.draw(5)) % 32
+    }
+
+    // A row or column on the rim or beside it.
+    fn draw_rim(&mut self, k: usize) -> usize
+        requires { k ≤ 30 }
+        ensures { result < 32 }
+    {
+        match self.draw(4) {
+            0 => 0,
+            1 => 1,
+            2 => k + 1,
+            _ => k,
+        }
+    }
+
+    fn draw_inner_spot(&mut self, map: &Map) -> Spot {
+        let row = self.draw_inner(map.rows);
+        let column = self.draw_inner(map.columns);
+        Spot { row, column }
+    }
+
+    fn draw_spot(&mut self, map: &Map, kind: Kind, middle: Spot) -> Spot {
+        let row = match kind {
+            Kind::Anywhere | Kind::RimColumn | Kind::Column => self.draw_line(map.rows),
+            Kind::Inner => self.draw_inner(map.rows),
+            Kind::Near => self.draw_near(middle.row),
+            Kind::RimRow => self.draw_rim(map.rows),
+            Kind::Row => middle.row,
+        };
+        let column = match kind {
+            Kind::Anywhere | Kind::RimRow | Kind::Row => self.draw_line(map.columns),
+            Kind::Inner => self.draw_inner(map.columns),
+            Kind::Near => self.draw_near(middle.column),
+            Kind::RimColumn => self.draw_rim(map.columns),
+            Kind::Column => middle.column,
+        };
+        Spot { row, column }
+    }
+
+    // The mark of a fault: in one case of `share` that of a dead processor at an inner spot.
+    fn draw_mark(&mut self, is_inner: bool, share: Option<usize>) -> Mark {
+        match share {
+            Some(share) if is_inner && self.draw(share) == 0 => Mark::Dead,
+            _ => Mark::Faulty,
+        }
+    }
+
+    // One more fault of a map, where a processor is.
+    fn add_fault(&mut self, map: &mut Map, style: Style) {
+        let kind = match style.kind {
+            Some(kind) => kind,
+            None => KINDS[self.draw(7)],
+        };
+        let spot = self.draw_spot(map, kind, style.middle);
+        let mark = self.draw_mark(map.is_inner(spot), style.share);
+        if map.is_there(spot) {
+            map.put(spot, mark);
+        }
+    }
+
+    // The kind of all faults of a map, if they have one.
+    fn draw_kind(&mut self) -> Option<Kind> {
+        match self.draw(12) {
+            7..=9 => None,
+            number => Some(KINDS.get(number).copied().unwrap_or(Kind::Inner)),
+        }
+    }
+
+    // How many faults there are for a dead one: in half of the maps none is dead.
+    fn draw_share(&mut self) -> Option<usize> {
+        match self.draw(8) {
+            0..=3 => None,
+            4 => Some(1),
+            5 => Some(2),
+            6 => Some(4),
+            _ => Some(8),
+        }
+    }
+
+    // A random map.
+    pub fn draw_map(&mut self, rows: usize, columns: usize) -> Map
+        requires { (rows ≤ 30) × (columns ≤ 30) }
+    {
+        let mut map = Map::healthy(rows, columns);
+        let kind = self.draw_kind();
+        let middle = self.draw_inner_spot(&map);
+        let count = self.draw_count(&map);
+        let share = self.draw_share();
+        for _ in 0..count {
+            self.add_fault(
+                &mut map,
+                Style {
+                    kind,
+                    middle,
+                    share,
+                },
+            );
+        }
+        map
+    }
+
+    // A path from a fault, drawn up to three times while it is not open.
+    fn draw_path(&mut self, map: &Map, start: Spot) -> Path {
+        for _ in 0..3 {
+            let path = Path {
+                start,
+                direction: self.draw_direction(),
+            };
+            if !path.is_blocked(map) {
+                return path;
+            }
+        }
+        Path {
+            start,
+            direction: self.draw_direction(),
+        }
+    }
+
+    // Random paths at the inner faults.
+    pub fn draw_choice(&mut self, map: &Map) -> Plan {
+        let mut plan = Plan::EMPTY;
+        for start in (0..1024).map(Spot::at) {
+            if map.is_inner_fault(start) {
+                plan.put(self.draw_path(map, start));
+            }
+        }
+        plan
+    }
+
+    // Random paths at inner spots, one spot in some.
+    pub fn draw_paths(&mut self, map: &Map, one_in: usize) -> Plan {
+        let mut plan = Plan::EMPTY;
+        for start in (0..1024).map(Spot::at) {
+            if map.is_inner(start) && self.draw(one_in) == 0 {
+                plan.put(Path {
+                    start,
+                    direction: self.draw_direction(),
+                });
+            }
+        }
+        plan
+    }
+
+    // Alters one direction: that of a path in four cases of five, else that of any inner spot, and then also to none or to 5.
+    pub fn alter(&mut self, map: &Map, plan: &Plan) -> Plan {
+        let mut altered = *plan;
+        let spot = self.draw_inner_spot(map);
+        if self.draw(5) == 0 {
+            altered.directions[spot.position()] = self.draw(6) as u8;
+        } else {
+            let start = pick(plan, spot);
+            altered.put(Path {
+                start,
+                direction: self.draw_direction(),
+            });
+        }
+        altered
+    }
 }
 
 // The limit of a map: low for every third one, so that many are spent.
@@ -40,208 +277,11 @@ pub fn limit_of(map: usize) -> u32 {
     if map % 3 == 0 { 60 } else { 3000 }
 }
 
-// How many faults are drawn, most often near the number up to which maps of this size are repaired.
-fn draw_count(seed: &mut u64, n: usize, m: usize) -> u8 {
-    let sides = (n % 32 + m % 32) as u8;
-    match draw(seed, 8) {
-        0 => draw(seed, 4),
-        1..=2 => sides / 2 + draw(seed, sides + 1) % 64,
-        3..=5 => sides + draw(seed, sides + 1) % 64,
-        6 => sides + draw(seed, 2 * sides + 1) % 128,
-        _ => draw(seed, 4 * sides + 1),
-    }
-}
-
-fn position(x: u8, y: u8) -> usize {
-    32 * ((x % 32) as usize) + (y % 32) as usize
-}
-
-// A row or column of the array, rim included.
-fn draw_line(seed: &mut u64, k: usize) -> u8 {
-    draw(seed, (k % 32 + 2) as u8)
-}
-
-// An inner row or column.
-fn draw_inner(seed: &mut u64, k: usize) -> u8 {
-    1 + draw(seed, (k % 32) as u8) % 32
-}
-
-// A row or column within 2 of another one, wrapped at 32.
-fn draw_near(seed: &mut u64, i: u8) -> u8 {
-    (i % 32 + 30 + draw(seed, 5) % 8) % 32
-}
-
-// A row or column on the rim or beside it.
-fn draw_rim(seed: &mut u64, k: usize) -> u8 {
-    let last = (k % 32 + 1) as u8;
-    match draw(seed, 4) {
-        0 => 0,
-        1 => 1,
-        2 => last,
-        _ => (k % 32) as u8,
-    }
-}
-
-// Where a fault falls: anywhere, at an inner position, near (x, y), on the rim or beside it (kinds 3 and 4), on row x or on column y.
-fn draw_spot(seed: &mut u64, kind: u8, n: usize, m: usize, x: u8, y: u8) -> usize {
-    match kind {
-        0 => position(draw_line(seed, n), draw_line(seed, m)),
-        1 => position(draw_inner(seed, n), draw_inner(seed, m)),
-        2 => position(draw_near(seed, x), draw_near(seed, y)),
-        3 => position(draw_rim(seed, n), draw_line(seed, m)),
-        4 => position(draw_line(seed, n), draw_rim(seed, m)),
-        5 => position(x, draw_line(seed, m)),
-        _ => position(draw_line(seed, n), y),
-    }
-}
-
-// The mark of a position without faults.
-fn blank_mark(n: usize, m: usize, p: usize) -> u8 {
-    let x = p / 32;
-    let y = p % 32;
-    let south = n % 32 + 1;
-    let east = m % 32 + 1;
-    if (south < x) | (east < y) {
-        return 2;
-    }
-    if ((x == 0) | (x == south)) & ((y == 0) | (y == east)) {
-        return 2;
-    }
-    0
-}
-
-fn fill_blank(n: usize, m: usize, grid: &mut [u8]) {
-    for p in 0..1024 {
-        buffers::put_byte(grid, p, blank_mark(n, m, p));
-    }
-}
-
-// The mark of a fault at p: that of a dead processor at an inner position in one case of `share`, in none where that is 0.
-fn draw_mark(seed: &mut u64, share: u8, n: usize, m: usize, p: usize) -> u8 {
-    if (share != 0) & buffers::is_inner(n, m, p) {
-        return if draw(seed, share) == 0 { 3 } else { 1 };
-    }
-    1
-}
-
-// Marks a position faulty where a processor is.
-fn mark_fault(grid: &mut [u8], p: usize, mark: u8) {
-    if buffers::byte(grid, p) != 2 {
-        buffers::put_byte(grid, p, mark);
-    }
-}
-
-// The kind of a fault, by the kind of map: the same, or drawn anew for each fault, or inner.
-fn draw_kind(seed: &mut u64, kind: u8) -> u8 {
-    if kind < 7 {
-        return kind;
-    }
-    if kind < 10 {
-        return draw(seed, 7);
-    }
-    1
-}
-
-// One more fault of a map; (x, y) is the middle of a cluster, or gives a line.
-fn add_fault(
-    seed: &mut u64,
-    kind: u8,
-    share: u8,
-    n: usize,
-    m: usize,
-    x: u8,
-    y: u8,
-    grid: &mut [u8],
-) {
-    let own = draw_kind(seed, kind);
-    let p = draw_spot(seed, own, n, m, x, y);
-    let mark = draw_mark(seed, share, n, m, p);
-    mark_fault(grid, p, mark);
-}
-
-// How many faults there are for a dead one: in half of the maps none is dead.
-fn draw_share(seed: &mut u64) -> u8 {
-    match draw(seed, 8) {
-        0..=3 => 0,
-        4 => 1,
-        5 => 2,
-        6 => 4,
-        _ => 8,
-    }
-}
-
-// A random map.
-pub fn fill_map(seed: &mut u64, n: usize, m: usize, grid: &mut [u8]) {
-    fill_blank(n, m, grid);
-    let kind = draw(seed, 12);
-    let x = draw_inner(seed, n);
-    let y = draw_inner(seed, m);
-    let count = draw_count(seed, n, m);
-    let share = draw_share(seed);
-    for _ in 0..count {
-        add_fault(seed, kind, share, n, m, x, y, grid);
-    }
-}
-
-// A direction for a fault, drawn up to three times while its path is not open.
-fn draw_direction(seed: &mut u64, n: usize, m: usize, grid: &[u8], p: usize) -> u8 {
-    for _ in 0..3usize {
-        let d = 1 + draw(seed, 4) % 4;
-        if !second::checks::is_blocked(n, m, grid, p, d) {
-            return d;
-        }
-    }
-    1 + draw(seed, 4) % 4
-}
-
-fn put_choice(seed: &mut u64, n: usize, m: usize, grid: &[u8], p: usize, directions: &mut [u8]) {
-    if buffers::is_inner(n, m, p) & buffers::is_fault(grid, p) {
-        let d = draw_direction(seed, n, m, grid, p);
-        buffers::put_byte(directions, p, d);
-    }
-}
-
-// Random directions at the inner faults.
-pub fn fill_choice(seed: &mut u64, n: usize, m: usize, grid: &[u8], directions: &mut [u8]) {
-    for p in 0..1024 {
-        put_choice(seed, n, m, grid, p, directions);
-    }
-}
-
-fn put_path(seed: &mut u64, n: usize, m: usize, k: u8, p: usize, directions: &mut [u8]) {
-    if !buffers::is_inner(n, m, p) {
-        return;
-    }
-    if draw(seed, k) == 0 {
-        buffers::put_byte(directions, p, 1 + draw(seed, 4) % 4);
-    }
-}
-
-// Random directions at inner positions, one position in k.
-pub fn fill_paths(seed: &mut u64, n: usize, m: usize, k: u8, directions: &mut [u8]) {
-    for p in 0..1024 {
-        put_path(seed, n, m, k, p, directions);
-    }
-}
-
-// The first position from `start` on that has a direction, starting again from 0 at the end, or 0 where there is none.
-fn pick(directions: &[u8], start: usize) -> usize {
-    for k in 0..1024 {
-        let p = (start % 1024 + k) % 1024;
-        if buffers::byte(directions, p) != 0 {
-            return p;
-        }
-    }
-    0
-}
-
-// Alters one direction: that of a path in four cases of five, else that of any inner position, and then also to none or to 5.
-pub fn alter(seed: &mut u64, n: usize, m: usize, directions: &mut [u8]) {
-    let p = position(draw_inner(seed, n), draw_inner(seed, m));
-    if draw(seed, 5) == 0 {
-        buffers::put_byte(directions, p, draw(seed, 6));
-    } else {
-        let q = pick(directions, p);
-        buffers::put_byte(directions, q, 1 + draw(seed, 4) % 4);
-    }
+// The first start of a path from a spot on, starting again from 0 at the end, or 0 where there is none.
+fn pick(plan: &Plan, from: Spot) -> Spot {
+    let first = from.position();
+    (first..first + 1024)
+        .map(Spot::at)
+        .find(|spot| plan.direction(*spot).is_some())
+        .unwrap_or(Spot::at(0))
 }

@@ -1,276 +1,128 @@
 // Placement, switches and links of a repaired map compared.
-use crate::counts::compare;
-use crate::{answers, counts};
-use second::{buffers, cells, links, switches};
+use crate::answers::{Refused, landed, placed, routed};
+use crate::counts::{Count, Difference, Tally};
+use second::cells::{Places, are_seated, place};
+use second::links::{Marks, Side, Track};
+use second::maps::{Direction, Map, Plan, Spot};
+use second::switches;
 
-// How many cells have a place.
-fn count_cells(places: &[u16]) -> usize {
-    let mut count = 0;
-    for p in 0..1024 {
-        if buffers::place(places, p) != 0 {
-            count = std::num::wrapping_add_usize(count, 1);
-        }
-    }
-    count
-}
+// How many switches a link between neighbours passes at most, and one that enters a dead processor.
+const MOST_SWITCHES: u8 = 3;
 
 // Both placements.
-fn cross_cells(
-    n: usize,
-    m: usize,
-    grid: &[u8],
-    directions: &[u8],
-    places: &mut [u16],
-    tally: &mut [u64],
-) {
-    let mut own = [0u16; 1024];
-    cells::place(n, m, directions, &mut own);
-    let accepted = answers::is_placed(n, m, grid, directions, places);
-    let same = answers::are_same_places(places, &own);
-    let seated = cells::are_seated(n, m, grid, places);
-    compare(tally, accepted & same, counts::PLACEMENT);
-    compare(tally, seated, counts::SEATS);
-    counts::add(tally, counts::CELLS, count_cells(&own) as u64);
+fn cross_cells(map: &Map, plan: &Plan, tally: &mut Tally) -> Result<Places, Refused> {
+    let places = placed(map, plan)?;
+    let own = place(map, plan);
+    tally.compare(places == own, Difference::Placement);
+    tally.compare(are_seated(map, &places), Difference::Seats);
+    tally.add(Count::Cells, own.cells() as u64);
+    Ok(places)
 }
 
 // Whether every byte of the switch buffers is the second routing's.
-fn are_switches(grid: &[u8], directions: &[u8], across: &[u8], down: &[u8]) -> bool {
-    for p in 0..1024 {
-        let a = switches::across(grid, directions, p / 32, p % 32);
-        let d = switches::down(grid, directions, p / 32, p % 32);
-        if (a != buffers::byte(across, p)) | (d != buffers::byte(down, p)) {
-            return false;
-        }
-    }
-    true
+fn are_switches(track: &Track) -> bool {
+    (0..1024).map(Spot::at).all(|spot| {
+        let across = switches::across(&track.map, &track.plan, spot);
+        let down = switches::down(&track.map, &track.plan, spot);
+        track.across[spot.position()] == across && track.down[spot.position()] == down
+    })
 }
 
-fn count_letter(across: &[u8], down: &[u8], letter: u8, what: usize, tally: &mut [u64]) {
-    counts::add(tally, what, answers::count_of(across, letter) as u64);
-    counts::add(tally, what, answers::count_of(down, letter) as u64);
-}
-
-fn count_letters(across: &[u8], down: &[u8], tally: &mut [u64]) {
-    count_letter(across, down, b'a', counts::LETTERS_A, tally);
-    count_letter(across, down, b'b', counts::LETTERS_B, tally);
-    count_letter(across, down, b'c', counts::LETTERS_C, tally);
-    count_letter(across, down, b'd', counts::LETTERS_D, tally);
+fn count_letter(track: &Track, letter: u8) -> u64 {
+    let is_letter = |byte: &&u8| **byte == letter;
+    let across = track.across.iter().filter(is_letter).count();
+    let down = track.down.iter().filter(is_letter).count();
+    across as u64 + down as u64
 }
 
 // Both routings.
-fn cross_switches(
-    n: usize,
-    m: usize,
-    grid: &[u8],
-    directions: &[u8],
-    across: &mut [u8],
-    down: &mut [u8],
-    tally: &mut [u64],
-) {
-    let accepted = answers::is_routed(n, m, grid, directions, across, down);
-    let same = are_switches(grid, directions, across, down);
-    compare(tally, accepted & same, counts::SWITCHES);
-    count_letters(across, down, tally);
+fn cross_switches(map: &Map, plan: &Plan, tally: &mut Tally) -> Result<Track, Refused> {
+    let track = routed(map, plan)?;
+    tally.compare(are_switches(&track), Difference::Switches);
+    tally.add(Count::LettersA, count_letter(&track, b'a'));
+    tally.add(Count::LettersB, count_letter(&track, b'b'));
+    tally.add(Count::LettersC, count_letter(&track, b'c'));
+    tally.add(Count::LettersD, count_letter(&track, b'd'));
+    Ok(track)
 }
 
-// The position of the right (side 0) or lower (1) neighbour's cell.
-fn neighbour(cell: usize, side: u8) -> usize {
-    buffers::ahead(cell, 3 - 2 * (side % 2))
+// A link of a cell, by its east or south port.
+#[derive(Clone, Copy)]
+struct Link {
+    cell: Spot,
+    port: Side,
 }
 
-// Both followers from one cell by its east (side 0) or south (1) port, to the processor of its neighbour.
-fn is_link(
-    n: usize,
-    m: usize,
-    grid: &[u8],
-    directions: &[u8],
-    across: &[u8],
-    down: &[u8],
-    places: &[u16],
-    cell: usize,
-    side: u8,
-    marks: &mut [u32],
-) -> bool {
-    let a = answers::landed(n, m, grid, directions, across, down, cell, side as usize);
-    let from = buffers::place(places, cell);
-    let to = buffers::place(places, neighbour(cell, side));
-    let w = links::follow(grid, directions, across, down, from, side, marks);
-    let arrived = (a.position == to) & ((a.port == 2 * (side % 2)) & (a.switches <= 3));
-    let here = (w.state == 1) & (links::position_of(w.node) == to);
-    (arrived & here) & ((w.side == a.port) & (w.switches == a.switches))
-}
-
-// Both followers from one cell by a side where it has no neighbour, to wherever the link ends.
-fn is_end(
-    n: usize,
-    m: usize,
-    grid: &[u8],
-    directions: &[u8],
-    across: &[u8],
-    down: &[u8],
-    places: &[u16],
-    cell: usize,
-    side: u8,
-    marks: &mut [u32],
-) -> bool {
-    let a = answers::landed(n, m, grid, directions, across, down, cell, side as usize);
-    let from = buffers::place(places, cell);
-    let w = links::follow(grid, directions, across, down, from, side, marks);
-    let arrived = (w.state == 1) & (w.switches <= 3);
-    let here = (links::position_of(w.node) == a.position) & (w.side == a.port);
-    if a.position < 1024 {
-        arrived & (here & (w.switches == a.switches))
-    } else {
-        !arrived
+impl Link {
+    // The cell that it leads to, if there is one.
+    fn neighbour(self, map: &Map) -> Option<Spot> {
+        let towards = match self.port {
+            Side::South => Direction::South,
+            _ => Direction::East,
+        };
+        let beside = self.cell.ahead(towards);
+        if map.is_inner(beside) {
+            Some(beside)
+        } else {
+            None
+        }
     }
 }
 
-// A link to a neighbour.
-fn cross_link(
-    n: usize,
-    m: usize,
-    grid: &[u8],
-    directions: &[u8],
-    across: &[u8],
-    down: &[u8],
-    places: &[u16],
-    cell: usize,
-    side: u8,
-    marks: &mut [u32],
-    tally: &mut [u64],
-) {
-    let arrives = is_link(
-        n, m, grid, directions, across, down, places, cell, side, marks,
-    );
-    compare(tally, arrives, counts::LINK);
-    counts::add(tally, counts::LINKS, 1);
-}
-
-// A link to a side without a neighbour. It may enter a dead processor.
-fn cross_end(
-    n: usize,
-    m: usize,
-    grid: &[u8],
-    directions: &[u8],
-    across: &[u8],
-    down: &[u8],
-    places: &[u16],
-    cell: usize,
-    side: u8,
-    marks: &mut [u32],
-    tally: &mut [u64],
-) {
-    let same = is_end(
-        n, m, grid, directions, across, down, places, cell, side, marks,
-    );
-    compare(tally, same, counts::END);
-    counts::add(tally, counts::ENDS, 1);
-}
-
-// The link of cell k / 2 by side k % 2, where there is such a cell, and a neighbour on that side or none, as is asked.
-fn cross_side(
-    beside: bool,
-    n: usize,
-    m: usize,
-    grid: &[u8],
-    directions: &[u8],
-    across: &[u8],
-    down: &[u8],
-    places: &[u16],
-    k: usize,
-    marks: &mut [u32],
-    tally: &mut [u64],
-) {
-    let cell = k / 2;
-    let side = (k % 2) as u8;
-    let has = buffers::is_inner(n, m, neighbour(cell, side));
-    if !buffers::is_inner(n, m, cell) | (has != beside) {
-        return;
-    }
-    if beside {
-        cross_link(
-            n, m, grid, directions, across, down, places, cell, side, marks, tally,
+// Both followers: to a neighbour, to the processor of its cell, and else to wherever the link ends, which may be a dead processor.
+fn cross_link(track: &Track, places: &Places, link: Link, marks: &mut Marks, tally: &mut Tally) {
+    let first = landed(track, link.cell, link.port);
+    let second = track
+        .follow(places.spot(link.cell), link.port, marks)
+        .map(|landing| landing.told())
+        .filter(|told| told.2 <= MOST_SWITCHES);
+    let is_same = first == second;
+    if let Some(neighbour) = link.neighbour(&track.map) {
+        let wanted = (
+            places.spot(neighbour).position(),
+            link.port.opposite() as u8,
         );
-        return;
+        let arrives = first.is_some_and(|told| (told.0, told.1) == wanted);
+        tally.compare(is_same && arrives, Difference::Link);
+        tally.add(Count::Links, 1);
+    } else {
+        tally.compare(is_same, Difference::End);
+        tally.add(Count::Ends, 1);
     }
-    cross_end(
-        n, m, grid, directions, across, down, places, cell, side, marks, tally,
-    );
 }
 
 // All links to a neighbour, or all to a side without one.
 fn cross_links(
-    beside: bool,
-    n: usize,
-    m: usize,
-    grid: &[u8],
-    directions: &[u8],
-    across: &[u8],
-    down: &[u8],
-    places: &[u16],
-    marks: &mut [u32],
-    tally: &mut [u64],
+    are_beside: bool,
+    track: &Track,
+    places: &Places,
+    marks: &mut Marks,
+    tally: &mut Tally,
 ) {
-    for k in 0..2048 {
-        cross_side(
-            beside, n, m, grid, directions, across, down, places, k, marks, tally,
-        );
+    for cell in (0..1024).map(Spot::at) {
+        for port in [Side::East, Side::South] {
+            let link = Link { cell, port };
+            let is_beside = link.neighbour(&track.map).is_some();
+            if track.map.is_inner(cell) && is_beside == are_beside {
+                cross_link(track, places, link, marks, tally);
+            }
+        }
     }
 }
 
-// All links to a neighbour, and no piece of track on two of them.
-fn cross_pieces(
-    n: usize,
-    m: usize,
-    grid: &[u8],
-    directions: &[u8],
-    across: &[u8],
-    down: &[u8],
-    places: &[u16],
-    marks: &mut [u32],
-    tally: &mut [u64],
-) {
-    links::begin(marks);
-    cross_links(
-        true, n, m, grid, directions, across, down, places, marks, tally,
-    );
-    compare(tally, links::shared(marks) == 0, counts::SHARED);
-    counts::add(tally, counts::PIECES, links::pieces(marks) as u64);
-}
-
-// All links, first those to neighbours, whose pieces are compared.
-fn cross_tracks(
-    n: usize,
-    m: usize,
-    grid: &[u8],
-    directions: &[u8],
-    across: &[u8],
-    down: &[u8],
-    places: &[u16],
-    marks: &mut [u32],
-    tally: &mut [u64],
-) {
-    cross_pieces(n, m, grid, directions, across, down, places, marks, tally);
-    cross_links(
-        false, n, m, grid, directions, across, down, places, marks, tally,
-    );
-}
-
-// A repaired map: placement, switches and links.
+// A repaired map: placement, switches and links, no two of which to neighbours have a piece of track in common.
 pub fn cross_track(
-    n: usize,
-    m: usize,
-    grid: &[u8],
-    directions: &[u8],
-    marks: &mut [u32],
-    tally: &mut [u64],
-) {
-    let mut places = [9u16; 1024];
-    let mut across = [9u8; 1024];
-    let mut down = [9u8; 1024];
-    cross_cells(n, m, grid, directions, &mut places, tally);
-    cross_switches(n, m, grid, directions, &mut across, &mut down, tally);
-    cross_tracks(
-        n, m, grid, directions, &across, &down, &places, marks, tally,
-    );
+    map: &Map,
+    plan: &Plan,
+    marks: &mut Marks,
+    tally: &mut Tally,
+) -> Result<(), Refused> {
+    let places = cross_cells(map, plan, tally)?;
+    let track = cross_switches(map, plan, tally)?;
+    marks.begin();
+    cross_links(true, &track, &places, marks, tally);
+    tally.compare(marks.shared == 0, Difference::Shared);
+    tally.add(Count::Pieces, u64::from(marks.pieces));
+    cross_links(false, &track, &places, marks, tally);
+    Ok(())
 }

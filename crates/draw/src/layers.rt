@@ -1,314 +1,242 @@
 // The layers of the picture. Each draws what one kind of thing looks like, position by position.
-use crate::{links, output, wafer};
+use crate::heading::Heading;
+use crate::wafer::{Wafer, x_of, y_of};
+use crate::{links, wafer};
+use std::io::{Result, Write};
 
 // What a layer draws. A path has a direction, a link the heading in which it leaves its cell.
-#[derive(Clone, Copy)]
-pub enum Layer {
+#[derive(Clone, Copy, Debug, PartialEq, Eq, Hash)]
+enum Layer {
     Labels,
     Tracks,
-    Paths(u8),
-    Heads(u8),
+    Paths(Heading),
+    Heads(Heading),
     Processors,
     Moved,
     Switches,
-    Links(u8),
+    Links(Heading),
     Cells,
 }
 
-// The letter of a direction.
-fn letter_of(direction: u8) -> u8 {
-    match direction {
-        1 => b'S',
-        2 => b'N',
-        3 => b'E',
-        _ => b'W',
-    }
-}
+// All layers, from the lowest to the highest.
+const LAYERS: [Layer; 16] = [
+    Layer::Labels,
+    Layer::Tracks,
+    Layer::Paths(Heading::South),
+    Layer::Paths(Heading::North),
+    Layer::Paths(Heading::East),
+    Layer::Paths(Heading::West),
+    Layer::Heads(Heading::South),
+    Layer::Heads(Heading::North),
+    Layer::Heads(Heading::East),
+    Layer::Heads(Heading::West),
+    Layer::Processors,
+    Layer::Moved,
+    Layer::Switches,
+    Layer::Links(Heading::South),
+    Layer::Links(Heading::East),
+    Layer::Cells,
+];
 
-// The letter of the direction in which a cell moved.
-fn letter_moved(from: usize, to: usize) -> u8 {
-    if from / 32 < to / 32 {
-        return b'S';
+// The number of p's column above the first row, and that of p's row before the first column.
+fn labels(out: &mut impl Write, wafer: &Wafer<'_>, p: usize) -> Result<()> {
+    let (row, column) = (p / 32, p % 32);
+    if row == 0 && wafer.has_processor(column + 32) {
+        writeln!(out, "<text x='{}' y='-36'>{column}</text>", x_of(p))?;
     }
-    if to / 32 < from / 32 {
-        return b'N';
+    if column == 0 && wafer.has_processor(row * 32 + 1) {
+        writeln!(out, "<text x='-40' y='{}'>{row}</text>", y_of(p))?;
     }
-    if from < to { b'E' } else { b'W' }
-}
-
-// The symbol of two letters, at a position.
-fn symbol(first: u8, second: u8, p: usize) {
-    let values = [
-        first as usize,
-        second as usize,
-        wafer::units(p % 32),
-        wafer::units(p / 32),
-    ];
-    output::form(b"<use xlink:href='#$$' x='@' y='@'/>\n", &values);
-}
-
-// The number of p's column, above the first row.
-fn column_label(grid: &[u8], p: usize) {
-    if (p / 32 == 0) & wafer::has_processor(grid, p % 32 + 32) {
-        output::form(b"<text x='@' y='-36'>@</text>\n", &[wafer::units(p), p]);
-    }
-}
-
-// The number of p's row, before the first column.
-fn row_label(grid: &[u8], p: usize) {
-    if (p % 32 == 0) & wafer::has_processor(grid, p / 32 * 32 + 1) {
-        let values = [wafer::units(p / 32), p / 32];
-        output::form(b"<text x='-40' y='@'>@</text>\n", &values);
-    }
-}
-
-// The numbers of the rows along the left edge and of the columns along the upper one.
-fn labels(grid: &[u8], p: usize) {
-    column_label(grid, p);
-    row_label(grid, p);
+    Ok(())
 }
 
 // A line from the processor at p, where there is one.
-fn track(on: bool, p: usize, line: &[u8]) {
+fn track(out: &mut impl Write, on: bool, p: usize, line: &str) -> Result<()> {
     if on {
-        output::form(b"M@ @", &[wafer::units(p % 32), wafer::units(p / 32)]);
-        output::text(line);
+        write!(out, "M{} {}{line}", x_of(p), y_of(p))?;
     }
+    Ok(())
 }
 
 // The tracks on both sides of the switches filed under p, and from these switches to the next ones of their channels.
-fn tracks(m: usize, grid: &[u8], p: usize) {
-    let across = wafer::has_across(m, grid, p);
-    let down = wafer::has_down(grid, p);
-    track(across, p, b"h72");
-    track(down, p, b"v72");
+fn tracks(out: &mut impl Write, wafer: &Wafer<'_>, p: usize) -> Result<()> {
+    let across = wafer.has_across(p);
+    let down = wafer.has_down(p);
+    track(out, across, p, "h72")?;
+    track(out, down, p, "v72")?;
     track(
-        across & wafer::has_across(m, grid, p % 1024 + 32),
+        out,
+        across && wafer.has_across(p.saturating_add(32)),
         p,
-        b"m36 0v72",
-    );
+        "m36 0v72",
+    )?;
     track(
-        down & (wafer::has_down(grid, p % 1024 + 1) & (p % 32 <= m)),
+        out,
+        down && p % 32 <= wafer.m && wafer.has_down(p.saturating_add(1)),
         p,
-        b"m0 36h72",
-    );
+        "m0 36h72",
+    )
 }
 
 // The coordinate along its axis at which a path ends.
-fn end_of(n: usize, m: usize, d: u8) -> usize {
+fn end_of(wafer: &Wafer<'_>, d: Heading) -> usize {
     match d {
-        1 => wafer::last_units(n),
-        3 => wafer::last_units(m),
-        _ => 0,
+        Heading::South => wafer::last_units(wafer.n),
+        Heading::East => wafer::last_units(wafer.m),
+        Heading::North | Heading::West => 0,
     }
-}
-
-// The letter of a line along the axis of a direction.
-fn axis_of(d: u8) -> u8 {
-    if d < 3 { b'V' } else { b'H' }
 }
 
 // The path from p in direction d to the middle of its spare.
-fn path(n: usize, m: usize, p: usize, d: u8) {
-    let values = [
-        wafer::units(p % 32),
-        wafer::units(p / 32),
-        axis_of(d) as usize,
-        end_of(n, m, d),
-    ];
-    output::form(b"M@ @$@", &values);
+fn path(out: &mut impl Write, wafer: &Wafer<'_>, p: usize, d: Heading) -> Result<()> {
+    let axis = if d.is_across() { "H" } else { "V" };
+    write!(out, "M{} {}{axis}{}", x_of(p), y_of(p), end_of(wafer, d))
 }
 
 // The arrowhead of the path from p in direction d, at its spare.
-fn head(n: usize, m: usize, p: usize, d: u8) {
-    let x = wafer::units(p % 32);
-    let y = wafer::units(p / 32);
-    let end = end_of(n, m, d);
+fn head(out: &mut impl Write, wafer: &Wafer<'_>, p: usize, d: Heading) -> Result<()> {
+    let (x, y, end) = (x_of(p), y_of(p), end_of(wafer, d));
     match d {
-        1 => output::form(b"M@ @m0-4l-25-25h50z", &[x, end]),
-        2 => output::form(b"M@ 4l-25 25h50z", &[x]),
-        3 => output::form(b"M@ @m-4 0l-25-25v50z", &[end, y]),
-        _ => output::form(b"M4 @l25-25v50z", &[y]),
+        Heading::South => write!(out, "M{x} {end}m0-4l-25-25h50z"),
+        Heading::North => write!(out, "M{x} 4l-25 25h50z"),
+        Heading::East => write!(out, "M{end} {y}m-4 0l-25-25v50z"),
+        Heading::West => write!(out, "M4 {y}l25-25v50z"),
     }
 }
 
-// The second letter of the symbol of a fault: dead, or by what its path joins.
-fn joined(mark: u8, direction: u8) -> u8 {
+// A symbol by its name, at a position.
+fn symbol(out: &mut impl Write, name: &str, p: usize) -> Result<()> {
+    writeln!(
+        out,
+        "<use xlink:href='#{name}' x='{}' y='{}'/>",
+        x_of(p),
+        y_of(p)
+    )
+}
+
+// The symbol of a fault: dead, or by what its path joins.
+fn fault(mark: u8, path: Option<Heading>) -> &'static str {
     if array::is_dead(mark) {
-        return b'd';
+        return "fd";
     }
-    match direction {
-        0 => b'o',
-        1 | 2 => b'v',
-        _ => b'h',
+    match path {
+        None => "fo",
+        Some(d) => if d.is_across() { "fh" } else { "fv" },
     }
 }
 
 // The processor at p: inner, spare, or a fault, dead or with what its path joins.
-fn processor(n: usize, m: usize, mark: u8, direction: u8, p: usize) {
+fn processor(out: &mut impl Write, wafer: &Wafer<'_>, p: usize) -> Result<()> {
+    let mark = wafer.mark(p);
     if array::is_faulty(mark) {
-        symbol(b'f', joined(mark, direction), p);
-    }
-    if mark == 0 {
-        if array::is_inner(n, m, p) {
-            symbol(b'p', b'i', p);
-        } else {
-            symbol(b's', b'p', p);
-        }
+        symbol(out, fault(mark, wafer.direction(p)), p)
+    } else if mark == 0 {
+        symbol(out, if wafer.is_inner(p) { "pi" } else { "sp" }, p)
+    } else {
+        Ok(())
     }
 }
 
 // The processor that holds the cell of p, where the cell moved.
-fn moved(p: usize, place: usize) {
-    if (place != 0) & (place != p) {
-        symbol(b'm', letter_moved(p, place), place);
+fn moved(out: &mut impl Write, wafer: &Wafer<'_>, p: usize) -> Result<()> {
+    match wafer.place(p) {
+        Some(place) if place != p => {
+            let way = Heading::of_move(p, place);
+            writeln!(
+                out,
+                "<use xlink:href='#m{way}' x='{}' y='{}'/>",
+                x_of(place),
+                y_of(place)
+            )
+        }
+        _ => Ok(()),
     }
 }
 
 // A switch, where there is one, with its letter, where it has one.
-fn switch(on: bool, kind: u8, letter: u8, p: usize) {
+fn switch(out: &mut impl Write, on: bool, kind: char, letter: u8, p: usize) -> Result<()> {
     if on {
-        let second = if letter == 0 { b'o' } else { letter };
-        symbol(kind, second, p);
+        let second = if letter == 0 { 'o' } else { char::from(letter) };
+        writeln!(
+            out,
+            "<use xlink:href='#{kind}{second}' x='{}' y='{}'/>",
+            x_of(p),
+            y_of(p)
+        )?;
     }
+    Ok(())
 }
 
 // The switches filed under p.
-fn switches(m: usize, grid: &[u8], across: &[u8], down: &[u8], p: usize) {
-    switch(
-        wafer::has_across(m, grid, p),
-        b'a',
-        wafer::get(across, p, 0),
-        p,
-    );
-    switch(wafer::has_down(grid, p), b'd', wafer::get(down, p, 0), p);
+fn switches(out: &mut impl Write, wafer: &Wafer<'_>, p: usize) -> Result<()> {
+    switch(out, wafer.has_across(p), 'a', wafer.across_letter(p), p)?;
+    switch(out, wafer.has_down(p), 'd', wafer.down_letter(p), p)
 }
 
 // The cell of p, where it has one: its index, in the processor that holds it.
-fn cell(p: usize, place: usize) {
-    let values = [
-        wafer::units(place % 32),
-        wafer::units(place / 32),
+fn cell(out: &mut impl Write, wafer: &Wafer<'_>, p: usize) -> Result<()> {
+    let Some(place) = wafer.place(p) else {
+        return Ok(());
+    };
+    let class = if place == p { "" } else { " class='m'" };
+    writeln!(
+        out,
+        "<text{class} x='{}' y='{}'>{},{}</text>",
+        x_of(place),
+        y_of(place),
         p / 32,
-        p % 32,
-    ];
-    if place == 0 {
-        return;
-    }
-    if place == p {
-        output::form(b"<text x='@' y='@'>@,@</text>\n", &values);
-    } else {
-        output::form(b"<text class='m' x='@' y='@'>@,@</text>\n", &values);
-    }
+        p % 32
+    )
 }
 
-// What a layer draws at p.
-fn item(
-    layer: Layer,
-    n: usize,
-    m: usize,
-    grid: &[u8],
-    directions: &[u8],
-    places: &[u16],
-    across: &[u8],
-    down: &[u8],
-    p: usize,
-) {
-    let direction = wafer::get(directions, p, 0);
-    let place = wafer::place_of(places, p);
-    match layer {
-        Layer::Labels => labels(grid, p),
-        Layer::Tracks => tracks(m, grid, p),
-        Layer::Paths(d) => if direction == d {
-            path(n, m, p, d);
-        },
-        Layer::Heads(d) => if direction == d {
-            head(n, m, p, d);
-        },
-        Layer::Processors => processor(n, m, wafer::get(grid, p, 2), direction, p),
-        Layer::Moved => moved(p, place),
-        Layer::Switches => switches(m, grid, across, down, p),
-        Layer::Links(h) => links::cell_link(n, m, grid, directions, place, across, down, p, h),
-        Layer::Cells => cell(p, place),
+impl Layer {
+    // What the layer draws at p.
+    fn draw_at(self, out: &mut impl Write, wafer: &Wafer<'_>, p: usize) -> Result<()> {
+        match self {
+            Layer::Labels => labels(out, wafer, p),
+            Layer::Tracks => tracks(out, wafer, p),
+            Layer::Paths(d) if wafer.direction(p) == Some(d) => path(out, wafer, p, d),
+            Layer::Heads(d) if wafer.direction(p) == Some(d) => head(out, wafer, p, d),
+            Layer::Paths(_) | Layer::Heads(_) => Ok(()),
+            Layer::Processors => processor(out, wafer, p),
+            Layer::Moved => moved(out, wafer, p),
+            Layer::Switches => switches(out, wafer, p),
+            Layer::Links(h) => links::cell_link(out, wafer, p, h),
+            Layer::Cells => cell(out, wafer, p),
+        }
     }
-}
 
-// The opening tag of a layer.
-fn opening(layer: Layer) {
-    match layer {
-        Layer::Labels => output::text(b"<g class='n' transform='translate(0 4)'>\n"),
-        Layer::Tracks => output::text(b"<path class='u' d='"),
-        Layer::Paths(d) => output::form(b"<path class='b $' d='", &[letter_of(d) as usize]),
-        Layer::Heads(d) => output::form(b"<path class='h $' d='", &[letter_of(d) as usize]),
-        Layer::Links(_) => output::text(b"<path class='l' d='"),
-        Layer::Cells => output::text(b"<g class='c' transform='translate(0 4)'>\n"),
-        _ => output::text(b"<g>\n"),
+    fn open(self, out: &mut impl Write) -> Result<()> {
+        match self {
+            Layer::Labels => writeln!(out, "<g class='n' transform='translate(0 4)'>"),
+            Layer::Tracks => write!(out, "<path class='u' d='"),
+            Layer::Paths(d) => write!(out, "<path class='b {d}' d='"),
+            Layer::Heads(d) => write!(out, "<path class='h {d}' d='"),
+            Layer::Links(_) => write!(out, "<path class='l' d='"),
+            Layer::Cells => writeln!(out, "<g class='c' transform='translate(0 4)'>"),
+            Layer::Processors | Layer::Moved | Layer::Switches => writeln!(out, "<g>"),
+        }
     }
-}
 
-// The closing tag of a layer.
-fn closing(layer: Layer) {
-    match layer {
-        Layer::Tracks | Layer::Paths(_) | Layer::Heads(_) | Layer::Links(_) => output::text(
-            b"'/>\n",
-        ),
-        _ => output::text(b"</g>\n"),
+    fn close(self, out: &mut impl Write) -> Result<()> {
+        match self {
+            Layer::Tracks | Layer::Paths(_) | Layer::Heads(_) | Layer::Links(_) => writeln!(
+                out,
+                "'/>"
+            ),
+            _ => writeln!(out, "</g>"),
+        }
     }
-}
-
-// A layer, over all positions.
-fn draw_layer(
-    layer: Layer,
-    n: usize,
-    m: usize,
-    grid: &[u8],
-    directions: &[u8],
-    places: &[u16],
-    across: &[u8],
-    down: &[u8],
-) {
-    opening(layer);
-    for p in 0..1024 {
-        item(layer, n, m, grid, directions, places, across, down, p);
-    }
-    closing(layer);
-}
-
-// All layers, from the lowest to the highest.
-fn layers() -> [Layer; 16] {
-    [
-        Layer::Labels,
-        Layer::Tracks,
-        Layer::Paths(1),
-        Layer::Paths(2),
-        Layer::Paths(3),
-        Layer::Paths(4),
-        Layer::Heads(1),
-        Layer::Heads(2),
-        Layer::Heads(3),
-        Layer::Heads(4),
-        Layer::Processors,
-        Layer::Moved,
-        Layer::Switches,
-        Layer::Links(3),
-        Layer::Links(1),
-        Layer::Cells,
-    ]
 }
 
 // The wafer, layer by layer.
-pub fn draw(
-    n: usize,
-    m: usize,
-    grid: &[u8],
-    directions: &[u8],
-    places: &[u16],
-    across: &[u8],
-    down: &[u8],
-) {
-    let all = layers();
-    for k in 0..16 {
-        let layer = all[k];
-        draw_layer(layer, n, m, grid, directions, places, across, down);
+pub fn draw(out: &mut impl Write, wafer: &Wafer<'_>) -> Result<()> {
+    for layer in LAYERS {
+        layer.open(out)?;
+        for p in 0..1024 {
+            layer.draw_at(out, wafer, p)?;
+        }
+        layer.close(out)?;
     }
+    Ok(())
 }

@@ -1,12 +1,10 @@
 // The fixed parts of the picture: styles, symbols and legend.
-use crate::output;
+use std::io::{Result, Write};
 
 // The styles of text (t title, g legend, n numbers along the edge, e letters, c cells, m moved cells), of lines (u tracks, j joins, l links),
 // of paths by direction (b bands, h arrowheads, o processors with moved cells), of processors (p inner, s spare, f fault, x its cross, k what
 // it joins, d dead, z its ring) and of switches (w); and a white ground.
-fn styles() {
-    output::text(
-        b"<style type='text/css'>
+const STYLES: &str = "<style type='text/css'>
 text{font-family:sans-serif;fill:#222}
 .t{font-size:18px;font-weight:bold}
 .g{font-size:13px}
@@ -34,16 +32,12 @@ text{font-family:sans-serif;fill:#222}
 .w{fill:#fff;stroke:#9a9a9a}
 </style>
 <rect width='100%' height='100%' fill='#fff'/>
-",
-    );
-}
+";
 
 // The symbols of processors: inner, spare, a fault that joins nothing, its N and S, or its W and E, a dead one, one with a moved
 // cell, by direction; the arrow of the legend; and the symbols of across and down switches, by their letters, at the processor under which
 // they are filed.
-pub fn symbols() {
-    output::text(
-        b"<defs>
+pub const SYMBOLS: &str = "<defs>
 <rect id='q' x='-20' y='-20' width='40' height='40' rx='7'/>
 <use id='pi' xlink:href='#q' class='p'/>
 <use id='sp' xlink:href='#q' class='s'/>
@@ -72,25 +66,23 @@ pub fn symbols() {
 <g id='dc'><use xlink:href='#do'/><use xlink:href='#jc' y='36'/><text class='e' x='14' y='32'>c</text></g>
 <g id='dd'><use xlink:href='#do'/><use xlink:href='#jd' y='36'/><text class='e' x='14' y='32'>d</text></g>
 </defs>
-",
-    );
-}
+";
 
 // The beginning of a picture of a width and a height.
-pub fn open(width: usize, height: usize) {
-    output::form(
-        b"<svg xmlns='http://www.w3.org/2000/svg' xmlns:xlink='http://www.w3.org/1999/xlink'
-version='1.1' width='@' height='@' viewBox='0 0 @ @'>
-",
-        &[width, height, width, height],
-    );
-    styles();
+pub fn open(out: &mut impl Write, width: usize, height: usize) -> Result<()> {
+    writeln!(
+        out,
+        "<svg xmlns='http://www.w3.org/2000/svg' xmlns:xlink='http://www.w3.org/1999/xlink'"
+    )?;
+    writeln!(
+        out,
+        "version='1.1' width='{width}' height='{height}' viewBox='0 0 {width} {height}'>"
+    )?;
+    out.write_all(STYLES.as_bytes())
 }
 
 // The legend of what only a plan has: paths, cells, switches and tracks.
-fn plan_rows() {
-    output::text(
-        b"<use xlink:href='#ar' class='S' transform='translate(0 165) scale(.7)'/>
+const PLAN_ROWS: &str = "<use xlink:href='#ar' class='S' transform='translate(0 165) scale(.7)'/>
 <text class='g' x='26' y='170'>path to the south</text>
 <use xlink:href='#ar' class='N' transform='translate(0 198) rotate(180) scale(.7)'/>
 <text class='g' x='26' y='203'>path to the north</text>
@@ -108,40 +100,38 @@ fn plan_rows() {
 <text class='g' x='26' y='335'>link</text>
 <path class='u' d='M-14 363H14'/>
 <text class='g' x='26' y='368'>track not in use</text>
-",
-    );
-}
+";
 
-// The legend, at a distance from the left.
-pub fn legend(x: usize, planned: bool) {
-    output::form(
-        b"<g transform='translate(@ 100)'>
-<use xlink:href='#fo' transform='scale(.7)'/>
+// The legend of what every map has: faults, dead processors and spares.
+const MAP_ROWS: &str = "<use xlink:href='#fo' transform='scale(.7)'/>
 <text class='g' x='26' y='5'>fault</text>
 <use xlink:href='#fd' transform='translate(0 33) scale(.7)'/>
 <text class='g' x='26' y='38'>dead processor</text>
 <use xlink:href='#sp' transform='translate(0 66) scale(.7)'/>
 <text class='g' x='26' y='71'>spare</text>
-",
-        &[x],
-    );
+";
+
+// The legend, at a distance from the left.
+pub fn legend(out: &mut impl Write, x: usize, planned: bool) -> Result<()> {
+    writeln!(out, "<g transform='translate({x} 100)'>")?;
+    out.write_all(MAP_ROWS.as_bytes())?;
     if planned {
-        plan_rows();
+        out.write_all(PLAN_ROWS.as_bytes())?;
     }
-    output::text(b"</g>\n");
+    writeln!(out, "</g>")
 }
 
 // What a refusal of a map file means.
-pub fn reason(number: u8) {
+pub fn reason(number: u8) -> &'static str {
     match number {
-        1 => output::text(b"the number of rows or columns is not 1 to 30"),
-        8 => output::text(b"the file ends too early"),
-        9 => output::text(b"a number is longer than three bytes or not in its shortest form"),
-        10 => output::text(b"a fault is at a place without a processor"),
-        11 => output::text(b"a fault is listed a second time"),
-        12 => output::text(b"bytes follow the last place, or a second count is 0"),
-        19 => output::text(b"the faults are not in row order"),
-        20 => output::text(b"a dead processor is not inside the array"),
-        _ => output::text(b"this is not a map"),
+        1 => "the number of rows or columns is not 1 to 30",
+        8 => "the file ends too early",
+        9 => "a number is longer than three bytes or not in its shortest form",
+        10 => "a fault is at a place without a processor",
+        11 => "a fault is listed a second time",
+        12 => "bytes follow the last place, or a second count is 0",
+        19 => "the faults are not in row order",
+        20 => "a dead processor is not inside the array",
+        _ => "this is not a map",
     }
 }

@@ -3,18 +3,18 @@
 use Prim.Native.Nat.{ℕ, zero, suc, ◌+◌, ◌*◌, ◌≤◌, ◌<◌}
 use mathlib.Core.Path.{◌≡◌, refl, sym, ap, subst, ◌∙◌}
 use mathlib.Core.Bool.{Bool, true, false, cond, false≢true}
-use mathlib.Core.Logic.{◌⊎◌, inl, inr}
+use mathlib.Core.Logic.{inl, inr}
 use mathlib.Core.List.{List, [], ◌∷◌}
+use Rattle.std.specs.Prelude.{Option, Some, None, IfSome, is_some}
 use native.Mathlib.Nat.{le_of_suc-le-suc, not-suc-le-zero}
 use native.Mathlib.Omega.{arith}
 use lib.ListN.{length, get_or, take}
 use lib.Seq.{length-take-le, get_or-take, ext_get_or}
 use Rattle.array.specs.Place.{inner}
 use Rattle.array.specs.Buffer.{buffer, zeros}
-use Rattle.array.proofs.Bools.{by_lt, by_bool, and_true}
+use Rattle.array.proofs.Bools.{by_lt, and_true}
 use Rattle.array.proofs.Places.{Inner, inner_holds}
 use Rattle.paths.specs.Path.{is_open, meet, near_miss, clear}
-use Rattle.paths.specs.Table.{ClashTable}
 use Rattle.paths.proofs.Ways.{way}
 use Rattle.paths.proofs.Clashes.{clear_neither, clear_comm}
 use Rattle.plans.specs.Faults.{faults, paired}
@@ -27,12 +27,12 @@ use Rattle.trials.proofs.Theorems.{trial_rule}
 use Rattle.exact.specs.declared.Decision.TheVariants.{Repaired, Beyond}
 use Rattle.exact.specs.Options.{at, NotLater}
 use Rattle.exact.specs.Problem.{Covered}
-use Rattle.exact.specs.Inner.{clears_on, Sited, Placed, Stuck, FitOn, Bettered, SomeCovered, Tabled}
+use Rattle.exact.specs.Inner.{clears_on, Placed, Stuck, FitOn, BufferFits, Ahead, Bettered, SomeCovered, SomeLeft, Tabled}
 use Rattle.exact.specs.Exact.{is_found, decided, directions_found, HoldsFound}
 use Rattle.exact.proofs.Crossings.{clear_largest, inner_largest, start_at, crossing, facing}
 use Rattle.exact.proofs.Cover.{some_pair}
 use Rattle.exact.proofs.Options.{later_then}
-use Rattle.exact.proofs.Pairs.{better_more, stuck_none}
+use Rattle.exact.proofs.Pairs.{stuck_none}
 use Rattle.plans.proofs.Spares.{plan_clear, plan_spares}
 
 -- the order of lists, by index
@@ -67,6 +67,9 @@ pub never_later : {count : ℕ} {a b : ℕ → ℕ} → NotLater count a b → N
 never_later (inl e) n j l = e j l
 never_later (inr w) n j l = let z = later_then w n in absurd (omega (arith, z.more))
 
+None≢Some : {b : List ℕ} → None ≡ Some b → ⊥
+None≢Some e = cc
+
 module _ (n m : ℕ) (grid : List ℕ) where
   abbrev fs : List ℕ
   fs = faults n m grid
@@ -77,7 +80,7 @@ module _ (n m : ℕ) (grid : List ℕ) where
   within : (k : ℕ) → k < length fs → inner n m (at fs k) ≡ true
   within k l = (and_true (inner n m (at fs k)) _ (fault_hit n m grid k l).passes).0
 
-  module _ (placed : Placed n m fs) (table : List ℕ) (tabled : Tabled n m grid fs table) where
+  module _ (placed : Placed n m fs) (table : List Bool) (tabled : Tabled n m grid fs table) where
     -- two faults' paths are clear on this array exactly where they are on the largest
     same_clear : (i j d e : ℕ) → i < length fs → j < length fs → (i ≡ j → ⊥) → (1 ≤ d) × (d ≤ 4) → (1 ≤ e) × (e ≤ 4)
         → clear n m (at fs i) d (at fs j) e ≡ clears_on fs i d j e
@@ -138,10 +141,6 @@ module _ (n m : ℕ) (grid : List ℕ) where
           no_near_miss = λ i j h l. (far i j h (omega arith)).1;
         }
 
-    -- every plan is left by some pair
-    abbrev All : (ℕ → ℕ) → Type 0
-    All q = SomeCovered false fs q ⊎ SomeCovered true fs q
-
     some : (q : ℕ → ℕ) (b : Bool) (i j : ℕ) → Covered (length fs) (at fs) q b i j → SomeCovered b fs q
     some q b i j c =
         record {
@@ -150,11 +149,12 @@ module _ (n m : ℕ) (grid : List ℕ) where
           is = record { k = j; below = omega (arith, c.b_within); is = c };
         }
 
-    by_side : (q : ℕ → ℕ) (b : Bool) (i j : ℕ) → Covered (length fs) (at fs) q b i j → All q
+    by_side : (q : ℕ → ℕ) (b : Bool) (i j : ℕ) → Covered (length fs) (at fs) q b i j → SomeLeft fs q
     by_side q false i j c = inl (some q false i j c)
     by_side q true i j c = inr (some q true i j c)
 
-    all_left : (q : ℕ → ℕ) → FitOn fs table q → All q
+    -- every plan is left by some pair
+    all_left : (q : ℕ → ℕ) → FitOn fs table q → SomeLeft fs q
     all_left q f =
         let large : (k : ℕ) → k < length fs → inner 30 30 (at fs k) ≡ true
         = λ k l. inner_largest n m (at fs k) placed.rows placed.columns (placed.inside k l) in
@@ -167,27 +167,30 @@ module _ (n m : ℕ) (grid : List ℕ) where
         (facing 30 30 (omega arith) (omega arith) (length fs) (at fs) q large f.apart) in
         by_side q p.by_columns p.a p.b p.covered
 
-    module _ {start : List ℕ} {h₁ h₂ : Bool} {b₁ b₂ : List ℕ} (room : length fs ≤ length b₂)
-        (rows : Bettered fs table (SomeCovered false fs) false start h₁ b₁)
-        (columns : Bettered fs table (SomeCovered true fs) h₁ b₁ h₂ b₂) where
-      both : Bettered fs table All false start h₂ b₂
-      both = better_more fs table (λ q x. x) rows columns
+    module _ {best : Option (List ℕ)} (both : Bettered fs table (SomeLeft fs) None best) where
+      fit : (b : List ℕ) → best ≡ Some b → BufferFits fs table b
+      fit = both.plans (λ b n. absurd (None≢Some n))
 
-      best_plan : h₂ ≡ true → Plan n m grid (take (length fs) b₂)
-      best_plan e = fit_plan b₂ room (both.plans (λ x. absurd (false≢true x)) e)
+      room : (b : List ℕ) → best ≡ Some b → length fs ≤ length b
+      room b e = omega (arith, placed.short, (fit b e).0)
 
-      first_best : (xs : List ℕ) → FirstPlan n m grid xs → (h₂ ≡ true) × (take (length fs) b₂ ≡ xs)
-      first_best xs f =
-          let fit = plan_fit xs f.is_plan in
-          let b = both.added (at xs) fit (all_left (at xs) fit) in
-          let p = best_plan b.0 in
-          let front = take (length fs) b₂ in
-          let many : length front ≡ length fs = length-take-le (length fs) b₂ room in
+      best_plan : (b : List ℕ) → best ≡ Some b → Plan n m grid (take (length fs) b)
+      best_plan b e = fit_plan b (room b e) (fit b e).1
+
+      ahead : (xs : List ℕ) → FirstPlan n m grid xs → Ahead (length fs) best (at xs)
+      ahead xs f = let fit = plan_fit xs f.is_plan in both.added (at xs) fit (all_left (at xs) fit)
+
+      first_best : (b : List ℕ) → best ≡ Some b → (xs : List ℕ) → FirstPlan n m grid xs → take (length fs) b ≡ xs
+      first_best b e xs f =
+          let p = best_plan b e in
+          let front = take (length fs) b in
+          let many : length front ≡ length fs = length-take-le (length fs) b (room b e) in
           let wide : length xs ≡ length fs = f.is_plan.one_path.one_each in
           let l : NotLater (length fs) (at xs) (at front)
           = subst (λ (k : ℕ). NotLater k (at xs) (at front)) wide (after_later xs front (wide ∙ sym many) (f.none_before front p)) in
-          let g : NotLater (length fs) (at front) (at xs) = front_not_later b₂ (at xs) b.1 in
-          (b.0, ext_get_or 0 front xs (many ∙ sym wide) (λ j k. never_later l g j (omega arith)))
+          let a : NotLater (length fs) (at b) (at xs) = subst (λ (o : Option (List ℕ)). Ahead (length fs) o (at xs)) e (ahead xs f) in
+          let g : NotLater (length fs) (at front) (at xs) = front_not_later b (at xs) a in
+          ext_get_or 0 front xs (many ∙ sym wide) (λ j k. never_later l g j (omega arith))
         where
           front_not_later : (b : List ℕ) (q : ℕ → ℕ) → NotLater (length fs) (at b) q
               → NotLater (length fs) (at (take (length fs) b)) q
@@ -200,16 +203,18 @@ module _ (n m : ℕ) (grid : List ℕ) where
                 more = let z = get_or-take (length fs) b w.i 0 w.below in omega (arith, w.more);
               })
 
-      pub best_found : (h₂ ≡ is_found (planned n m grid)) × HoldsFound (planned n m grid) (take (length fs) b₂)
-      best_found = by (planned n m grid) refl
+      pub best_found : (is_some best ≡ is_found (planned n m grid))
+          × IfSome best (λ b. HoldsFound (planned n m grid) (take (length fs) b))
+      best_found = by (planned n m grid) refl best refl
         where
-          by : (s : Search) → planned n m grid ≡ s → (h₂ ≡ is_found s) × HoldsFound s (take (length fs) b₂)
-          by (found k xs) e = first_best xs (trial_rule.first_of_plans n m k grid xs e)
-          by (exhausted k) e =
-              let blocked = trial_rule.none_found n m k grid e in (
-                by_bool h₂ (λ t. let p = best_plan t in absurd (plan_not_blocked n m grid _ p (blocked _ p.one_path))) (λ t. t),
-                tt,
-              )
+          by : (s : Search) → planned n m grid ≡ s → (o : Option (List ℕ)) → best ≡ o
+              → (is_some o ≡ is_found s) × IfSome o (λ b. HoldsFound s (take (length fs) b))
+          by (found k xs) e None z = absurd (subst (λ (o : Option (List ℕ)). Ahead (length fs) o (at xs)) z (ahead xs (trial_rule.first_of_plans n m k grid xs e)))
+          by (found k xs) e (Some b) z = (refl, first_best b z xs (trial_rule.first_of_plans n m k grid xs e))
+          by (exhausted k) e None z = (refl, tt)
+          by (exhausted k) e (Some b) z =
+              let p = best_plan b z in
+              absurd (plan_not_blocked n m grid _ p (trial_rule.none_found n m k grid e _ p.one_path))
 
 -- where there is no plan the trials find none
 none_by : (front : List ℕ) (s : Search) → ((k : ℕ) (xs : List ℕ) → s ≡ found k xs → ⊥) → (false ≡ is_found s) ×
@@ -223,7 +228,7 @@ none_found n m grid front none =
     none_by front (planned n m grid) (λ k xs e. none xs (trial_rule.first_of_plans n m k grid xs e).is_plan)
 
 -- The parts, where these are the starts of the faults.
-module _ (n m : ℕ) (grid starts table : List ℕ) (e : starts ≡ faults n m grid) (placed : Placed n m starts)
+module _ (n m : ℕ) (grid starts : List ℕ) (table : List Bool) (e : starts ≡ faults n m grid) (placed : Placed n m starts)
     (tabled : Tabled n m grid starts table) where
   here : Placed n m (faults n m grid)
   here = subst (λ (l : List ℕ). Placed n m l) e placed
@@ -239,27 +244,15 @@ module _ (n m : ℕ) (grid starts table : List ℕ) (e : starts ≡ faults n m g
       stuck_none (faults n m grid) table (subst (λ (l : List ℕ). Stuck (length l) table) e s) (at xs)
       (plan_fit n m grid here table listed xs p))
 
-  pub best_of : {start b₁ b₂ : List ℕ} {h₁ h₂ : Bool} → length starts ≤ length b₂
-      → Bettered starts table (SomeCovered false starts) false start h₁ b₁
-      → Bettered starts table (SomeCovered true starts) h₁ b₁ h₂ b₂
-      → (h₂ ≡ is_found (planned n m grid)) × HoldsFound (planned n m grid) (take (length starts) b₂)
-  best_of {start} {b₁} {b₂} {h₁} {h₂} =
+  pub best_of : {best : Option (List ℕ)} → Bettered starts table (SomeLeft starts) None best
+      → (is_some best ≡ is_found (planned n m grid))
+      × IfSome best (λ b. HoldsFound (planned n m grid) (take (length starts) b))
+  best_of {best} =
       subst
       (λ (l : List ℕ).
-      length l ≤ length b₂ → Bettered l table (SomeCovered false l) false start h₁ b₁
-      → Bettered l table (SomeCovered true l) h₁ b₁ h₂ b₂
-      → (h₂ ≡ is_found (planned n m grid)) × HoldsFound (planned n m grid) (take (length l) b₂))
-      (sym e) (λ r x y. best_found n m grid here table listed r x y)
-
--- what the pairs are tried over
-pub placed_sited : {n m : ℕ} {clashes starts : List ℕ} → Placed n m starts → ClashTable clashes → Sited clashes starts
-placed_sited {n} {m} {clashes} {starts} p t =
-    record {
-      table = t;
-      few = p.short;
-      inside = λ k l. inner_largest n m (at starts k) p.rows p.columns (p.inside k l);
-      ascend = p.ascend;
-    }
+      Bettered l table (SomeLeft l) None best
+      → (is_some best ≡ is_found (planned n m grid)) × IfSome best (λ b. HoldsFound (planned n m grid) (take (length l) b)))
+      (sym e) (λ x. best_found n m grid here table listed x)
 
 -- the faults, where they are few
 pub faults_placed : (n m : ℕ) (grid starts : List ℕ) → starts ≡ faults n m grid → n ≤ 30 → m ≤ 30 → length starts ≤ 128
@@ -291,6 +284,11 @@ found_written n m grid starts best directions f e p h q =
     q ∙ ap (λ (b : Bool). cond b (buffer (direction_of (paired starts (take (length starts) best)))) zeros) p
     ∙ written_found starts (take (length starts) best) (planned n m grid) h
     ∙ ap (λ (l : List ℕ). directions_found l (planned n m grid)) e
+
+pub none_written : (starts : List ℕ) (s : Search) → false ≡ is_found s → zeros ≡ directions_found starts s
+unfolding directions_found
+none_written starts (found k xs) e = absurd (false≢true e)
+none_written starts (exhausted k) e = refl
 
 -- more faults than spares
 pub too_many : (n m : ℕ) (grid starts : List ℕ) → starts ≡ faults n m grid → n ≤ 30 → m ≤ 30 → 2 * (n + m) < length

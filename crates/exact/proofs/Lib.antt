@@ -4,8 +4,8 @@ pub mod Crossings
 pub mod Options
 pub mod Listing
 pub mod Striking
-pub mod Nexting
 pub mod Spreading
+pub mod Comparing
 pub mod Offering
 pub mod Pairs
 pub mod Exactly

@@ -1,7 +1,7 @@
 -- The lists of the faults that may clash: how they are made, and that options may only be taken away.
 -- Assumes nothing.
 use Prim.Native.Nat.{ℕ, ◌+◌, ◌*◌, ◌-◌, ◌/◌, ◌%◌, ◌≤◌, ◌<◌}
-use mathlib.Core.Path.{◌≡◌, refl, sym, ap, subst, ◌∙◌}
+use mathlib.Core.Path.{◌≡◌, refl, ap, subst, ◌∙◌}
 use mathlib.Core.Bool.{Bool, true, ◌&&◌}
 use mathlib.Core.Logic.{inl, inr, ⊎_elim}
 use mathlib.Core.List.{List}
@@ -12,9 +12,8 @@ use lib.Dec.{ltb}
 use lib.ListN.{length, set, length-set}
 use lib.Seq.{get_or-set_same, get_or-set_other}
 use Rattle.array.proofs.Bools.{and_true, by_eq, by_lt}
-use Rattle.exact.specs.Masks.{leaves}
 use Rattle.exact.specs.Options.{at, Narrowed}
-use Rattle.exact.specs.Inner.{clears_on, Option, Passes, Row, Listed, RowListed, Alone, alone_in, Offers}
+use Rattle.exact.specs.Inner.{clears_on, OneOf, Passes, Row, Listed, RowListed, Alone, alone_in}
 use Rattle.exact.proofs.Options.{low_in, high_in}
 
 -- fewer directions
@@ -39,44 +38,16 @@ listed_less {count} {clears} {may} {may'} less l = record {
 }
 
 pub still_listed : {count : ℕ} {clears : ℕ → ℕ → ℕ → ℕ → Bool} {lo hi lo' hi' : ℕ → ℕ} {lists ends rest : List ℕ}
-    → Narrowed count lo hi lo' hi' → Listed count clears (Option lo hi) lists ends rest
-    → Listed count clears (Option lo' hi') lists ends rest
+    → Narrowed count lo hi lo' hi' → Listed count clears (OneOf lo hi) lists ends rest
+    → Listed count clears (OneOf lo' hi') lists ends rest
 still_listed {count} {clears} {lo} {hi} {lo'} {hi'} t = listed_less less
   where
-    less : (k x : ℕ) → k < count → Option lo' hi' k x → Option lo hi k x
+    less : (k x : ℕ) → k < count → OneOf lo' hi' k x → OneOf lo hi k x
     less k x l (inl e) = ⊎_elim (λ f. inl (e ∙ f)) (λ f. inr (e ∙ f)) (low_in t k l)
     less k x l (inr e) = ⊎_elim (λ f. inl (e ∙ f)) (λ f. inr (e ∙ f)) (high_in t k l)
 
--- the options that a pair leaves are allowed alone
-pub offers_listed : {columns : Bool} {a b : ℕ} {starts table lo hi lists ends rest : List ℕ}
-    → Offers columns a b starts table lo hi → Listed (length starts) (clears_on starts) (Alone table) lists ends rest
-    → Listed (length starts) (clears_on starts) (Option (at lo) (at hi)) lists ends rest
-offers_listed {columns} {a} {b} {starts} {table} {lo} {hi} o = listed_less less
-  where
-    less : (k x : ℕ) → k < length starts → Option (at lo) (at hi) k x → Alone table k x
-    less k x l (inl e) =
-        let h = o.held in
-        let r = h.ordered k l in
-        let t = h.high k l in
-        subst (Alone table k) (sym e) (
-          h.low k l,
-          omega arith,
-          (and_true (alone_in table k (at lo k)) (leaves columns a b (at starts k) (at lo k))
-              (o.low_offered k l)).0,
-        )
-    less k x l (inr e) =
-        let h = o.held in
-        let r = h.ordered k l in
-        let t = h.low k l in
-        subst (Alone table k) (sym e) (
-          omega arith,
-          h.high k l,
-          (and_true (alone_in table k (at hi k)) (leaves columns a b (at starts k) (at hi k))
-              (o.high_offered k l)).0,
-        )
-
 -- Two faults, by all their directions: number j is direction j / 4 + 1 of the first and j % 4 + 1 of the second.
-module _ (starts table : List ℕ) (f g : ℕ) where
+module _ (starts : List ℕ) (table : List Bool) (f g : ℕ) where
   abbrev ClearAt : ℕ → ℕ → Type 0
   ClearAt d e = alone_in table f d ≡ true → alone_in table g e ≡ true → clears_on starts f d g e ≡ true
 
@@ -219,17 +190,6 @@ module _ (count : ℕ) (clears : ℕ → ℕ → ℕ → ℕ → Bool) (may : �
     pub ascend : (j : ℕ) → j < f → at ends (j + 1) ≤ at ends f
     pub rows : (j : ℕ) → j < f → Row count clears may lists j (at ends j) (at ends (j + 1)) (at rest j)
 
-  pub rows_start : {lists ends rest : List ℕ} → length lists ≡ 2048 → length ends ≡ 129 → length rest ≡ 128
-      → at ends 0 ≡ 0 → Listing 0 lists ends rest
-  rows_start a b c e = record {
-    long = a;
-    ends_long = b;
-    rest_long = c;
-    last = omega arith;
-    ascend = λ j l. absurd (omega arith);
-    rows = λ j l. absurd (omega arith);
-  }
-
   pub rows_next : {f : ℕ} {lists ends rest lists' ends' rest' : List ℕ} → Listing f lists ends rest
       → RowListed count clears may f lists ends rest lists' ends' rest' → Listing (f + 1) lists' ends' rest'
   rows_next {f} {lists} {ends} {rest} {lists'} {ends'} {rest'} s r =
@@ -254,12 +214,3 @@ module _ (count : ℕ) (clears : ℕ → ℕ → ℕ → ℕ → Bool) (may : �
             (row_still (λ i u. r.same i (omega arith)) (s.rows j b)))
             (λ b. let e : j ≡ f = omega arith in rw (e, r.same_ends f (omega arith)) r.row);
       }
-
-  pub rows_end : {f : ℕ} {lists ends rest : List ℕ} → Listing f lists ends rest → count ≤ f
-      → Listed count clears may lists ends rest
-  rows_end s h = record {
-    long = s.long;
-    ends_long = s.ends_long;
-    rest_long = s.rest_long;
-    rows = λ j l. s.rows j (omega arith);
-  }

@@ -12,7 +12,7 @@ use Rattle.array.proofs.Bools.{and_true, by_eq}
 use Rattle.paths.proofs.Ways.{Way, way, south, north, east, west}
 use Rattle.exact.specs.Masks.{leaves, tried}
 use Rattle.exact.specs.Options.{at}
-use Rattle.exact.specs.Inner.{alone_in, offered, lowest, highest, Offers, Starved}
+use Rattle.exact.specs.Inner.{alone_in, offered, lowest, highest, Offers}
 use Rattle.exact.proofs.Masks.{two_options}
 
 between : (s n e w : Bool) → (lowest s n e w ≡ 0 → ⊥) → (1 ≤ lowest s n e w) × (lowest s n e w ≤ highest s n e w) ×
@@ -33,13 +33,6 @@ between false false true true h = omega arith
 between false false true false h = omega arith
 between false false false true h = omega arith
 between false false false false h = absurd (h refl)
-
-none_passes : (s n e w : Bool) → lowest s n e w ≡ 0 → (s ≡ false) × (n ≡ false) × (e ≡ false) × (w ≡ false)
-none_passes true n e w h = absurd (omega arith)
-none_passes false true e w h = absurd (omega arith)
-none_passes false false true w h = absurd (omega arith)
-none_passes false false false true h = absurd (omega arith)
-none_passes false false false false h = (refl, refl, refl, refl)
 
 -- Four tests of one fault, of which no three pass.
 module _ (f : ℕ → Bool) (few : (d e g : ℕ) → 1 ≤ d → d < e → e < g → g ≤ 4 → f d ≡ true → f e ≡ true → f g ≡ true →
@@ -95,13 +88,7 @@ module _ (f : ℕ → Bool) (few : (d e g : ℕ) → 1 ≤ d → d < e → e < g
     only_of d east h = east_only s n e w a b c g (c ∙ h)
     only_of d west h = inr (west_only s n e w (g ∙ h))
 
-    none_of : lowest s n e w ≡ 0 → (d : ℕ) → Way d → f d ≡ false
-    none_of z d south = sym a ∙ (none_passes s n e w z).0
-    none_of z d north = sym b ∙ (none_passes s n e w z).1
-    none_of z d east = sym c ∙ (none_passes s n e w z).2
-    none_of z d west = sym g ∙ (none_passes s n e w z).3
-
-module _ (columns : Bool) (a b : ℕ) (starts table : List ℕ) where
+module _ (columns : Bool) (a b : ℕ) (starts : List ℕ) (table : List Bool) where
   -- the options of fault j
   pub record Offer (j x y : ℕ) : Type 0 where
     pub low : 1 ≤ x
@@ -151,13 +138,6 @@ module _ (columns : Bool) (a b : ℕ) (starts table : List ℕ) where
 
       ew : w ≡ f 4
       ew = fw ∙ at_here 4
-
-      pub offer_none : {x : ℕ} → x ≡ lowest s n e w → x ≡ 0 → Starved columns a b starts table
-      offer_none ex z = record {
-        k = k;
-        below = l;
-        none = λ d i j. none_of f (few k) s n e w es en ee ew (sym ex ∙ z) d (way d i j);
-      }
 
       offer_here : (lowest s n e w ≡ 0 → ⊥) → Offer k (lowest s n e w) (highest s n e w)
       offer_here ne =

@@ -1,23 +1,19 @@
 -- The pairs of ends one after the other: the best plan so far, and what each pair adds.
 -- Assumes nothing.
 use Prim.Native.Nat.{ℕ, zero, suc, ◌+◌, ◌*◌, ◌-◌, ◌/◌, ◌%◌, ◌≤◌, ◌<◌}
-use mathlib.Core.Path.{◌≡◌, refl, sym, ap, subst, ◌∙◌}
-use mathlib.Core.Bool.{Bool, true, false, cond, not, ◌&&◌, ◌||◌, true≢false, false≢true}
+use mathlib.Core.Path.{◌≡◌, sym, ap, subst, ◌∙◌}
+use mathlib.Core.Bool.{Bool, true, false, true≢false}
 use mathlib.Core.Logic.{◌⊎◌, inl, inr, ⊎_elim}
 use mathlib.Core.List.{List}
+use Rattle.std.specs.Prelude.{Option, Some, None}
 use native.Mathlib.Omega.{arith}
 use borrow.Author.Count.{below_more}
-use borrow.Author.Tests.{lt-ltb, le-ltb, not-true}
-use lib.Dec.{ltb, eqb}
-use lib.ListN.{length, set, length-set}
+use lib.ListN.{length, set, get_or, length-set}
 use lib.Seq.{get_or-set_same, get_or-set_other}
-use Rattle.array.proofs.Bools.{and_true, and_both, or_false, by_lt}
+use Rattle.array.proofs.Bools.{and_true, and_both, by_lt}
 use Rattle.paths.specs.Path.{is_open}
-use Rattle.paths.proofs.Ways.{Way, way, south, north, east, west}
-use Rattle.exact.specs.Masks.{leaves, tried, end_of}
-use Rattle.exact.specs.Options.{at, Later, NotLater, Solution, NoSolution, FirstSolution}
-use Rattle.exact.specs.Problem.{Covered}
-use Rattle.exact.specs.Inner.{clears_on, Held, alone_in, offered, Offers, Starved, Stuck, FitOn, Takes, Bettered}
+use Rattle.exact.specs.Options.{at, NotLater, Solution, NoSolution, FirstSolution}
+use Rattle.exact.specs.Inner.{clears_on, Held, alone_in, offered, Offers, Stuck, FitOn, Ahead, Before, Takes, Bettered}
 use Rattle.exact.specs.Inner.{LeftBy, SomeBelow, Tabled}
 use Rattle.exact.proofs.Options.{later_then}
 
@@ -56,63 +52,51 @@ least_first starts lo hi h q s =
     let o = h.ordered k l in
     ⊎_elim (λ (e : q k ≡ at lo k). omega arith) (λ (e : q k ≡ at hi k). omega arith) (s.within k l))
 
+-- what is kept of the best so far
+pub ahead_then : {count : ℕ} {a b : ℕ → ℕ} (best : Option (List ℕ)) → Ahead count best a → NotLater count a b → Ahead count best b
+ahead_then None x n = absurd x
+ahead_then (Some best) x n = not_later_then x n
+
+before_then : {count : ℕ} {q : ℕ → ℕ} (val : List ℕ) (best : Option (List ℕ)) → Before count val best → Ahead count best q
+    → NotLater count (at val) q
+before_then val None x a = absurd a
+before_then val (Some best) x a = inr (later_then x a)
+
 -- The solutions of some options.
-module _ (starts lo hi : List ℕ) (have : Bool) (best : List ℕ) where
-  pub takes_none : NoSolution (length starts) (clears_on starts) (at lo) (at hi) → Takes starts lo hi have best have
-      best
-  takes_none h = record { kept = λ q e l. (e, l); added = λ q s. absurd (h q s); from = λ e. inl (e, refl) }
+module _ (starts lo hi : List ℕ) (best : Option (List ℕ)) where
+  pub takes_none : NoSolution (length starts) (clears_on starts) (at lo) (at hi) → Takes starts lo hi best best
+  takes_none h = record { kept = λ q a. a; added = λ q s. absurd (h q s); from = λ b e. inl e }
 
   -- the best so far is not later than what no solution comes before
-  pub takes_old : (val : List ℕ) (before : Bool)
-      → ((q : ℕ → ℕ) → Solution (length starts) (clears_on starts) (at lo) (at hi) q → NotLater (length starts) (at
-      val) q)
-      → (have && not before) ≡ true → (before ≡ false → NotLater (length starts) (at best) (at val))
-      → Takes starts lo hi have best true best
-  takes_old val before least h otherwise =
-      let x = and_true have (not before) h in
-      record {
-        kept = λ q e l. (refl, l);
-        added = λ q s. (refl, not_later_then (otherwise (not-true before x.1)) (least q s));
-        from = λ e. inl (x.0, refl);
-      }
+  pub takes_old : (val : List ℕ)
+      → ((q : ℕ → ℕ) → Solution (length starts) (clears_on starts) (at lo) (at hi) q → NotLater (length starts) (at val) q)
+      → Ahead (length starts) best (at val) → Takes starts lo hi best best
+  takes_old val least x = record {
+    kept = λ q a. a;
+    added = λ q s. ahead_then best x (least q s);
+    from = λ b e. inl e;
+  }
 
-  earlier : (a b : Bool) → (a && not b) ≡ false → a ≡ true → b ≡ true
-  earlier a true h e = refl
-  earlier true false h e = absurd (true≢false h)
-  earlier false false h e = absurd (false≢true e)
+  pub takes_new : (val : List ℕ) → FirstSolution (length starts) (clears_on starts) (at lo) (at hi) (at val)
+      → length val ≡ 128 → Before (length starts) val best → Takes starts lo hi best (Some val)
+  takes_new val first long x = record {
+    kept = λ q a. before_then val best x a;
+    added = λ q s. first.none_before q s;
+    from = λ b e.
+        let same : val ≡ b = cc in
+        inr (subst (λ (l : List ℕ). (length l ≡ 128) × Solution (length starts) (clears_on starts) (at lo) (at hi) (at l)) same
+        (long, first.is_solution));
+  }
 
-  pub takes_new : (val : List ℕ) (before : Bool)
-      → FirstSolution (length starts) (clears_on starts) (at lo) (at hi) (at val)
-      → (have && not before) ≡ false → (before ≡ true → Later (length starts) (at val) (at best)) → (new : List ℕ) →
-      new ≡ val
-      → Takes starts lo hi have best true new
-  takes_new val before first h then new e =
-      subst (λ (l : List ℕ). Takes starts lo hi have best true l) (sym e)
-      (record {
-        kept = λ q t l. (refl, inr (later_then (then (earlier have before h t)) l));
-        added = λ q s. (refl, first.none_before q s);
-        from = λ t. inr first.is_solution;
-      })
-
-module _ (starts table : List ℕ) where
-  -- nothing is added
-  pub better_skip : {P : (ℕ → ℕ) → Type 0} {have : Bool} {best : List ℕ} → ((q : ℕ → ℕ) → FitOn starts table q → P q
-      → ⊥)
-      → Bettered starts table P have best have best
-  better_skip h = record { kept = λ q e l. (e, l); added = λ q f p. absurd (h q f p); plans = λ f. f }
-
-  pub better_weaken : {P P' : (ℕ → ℕ) → Type 0} {have have' : Bool} {best best' : List ℕ} → ((q : ℕ → ℕ) → P' q → P q)
-      → Bettered starts table P have best have' best' → Bettered starts table P' have best have' best'
-  better_weaken h b = record { kept = b.kept; added = λ q f p. b.added q f (h q p); plans = b.plans }
-
+module _ (starts : List ℕ) (table : List Bool) where
   -- one step more
-  pub better_more : {P P' P'' : (ℕ → ℕ) → Type 0} {have have' have'' : Bool} {best best' best'' : List ℕ}
-      → ((q : ℕ → ℕ) → P'' q → P q ⊎ P' q) → Bettered starts table P have best have' best'
-      → Bettered starts table P' have' best' have'' best'' → Bettered starts table P'' have best have'' best''
+  pub better_more : {P P' P'' : (ℕ → ℕ) → Type 0} {best best' best'' : Option (List ℕ)}
+      → ((q : ℕ → ℕ) → P'' q → P q ⊎ P' q) → Bettered starts table P best best'
+      → Bettered starts table P' best' best'' → Bettered starts table P'' best best''
   better_more h b c =
       record {
-        kept = λ q e l. let x = b.kept q e l in c.kept q x.0 x.1;
-        added = λ q f p. ⊎_elim (λ y. let x = b.added q f y in c.kept q x.0 x.1) (λ y. c.added q f y) (h q p);
+        kept = λ q a. c.kept q (b.kept q a);
+        added = λ q f p. ⊎_elim (λ y. c.kept q (b.added q f y)) (λ y. c.added q f y) (h q p);
         plans = λ f. c.plans (b.plans f);
       }
 
@@ -124,14 +108,6 @@ module _ (starts table : List ℕ) where
 
   -- One pair.
   module _ (columns : Bool) (a b : ℕ) where
-    pub starved_none : Starved columns a b starts table → (q : ℕ → ℕ) → FitOn starts table q → LeftBy columns a b
-        starts q → ⊥
-    starved_none s q f p =
-        let r = f.straight s.k s.below in
-        true≢false
-        (sym (and_both (alone_in table s.k (q s.k)) _ (f.open_path s.k s.below) (p s.k s.below))
-        ∙ s.none (q s.k) r.0 r.1)
-
     module _ (lo hi : List ℕ) (o : Offers columns a b starts table lo hi) where
       fit_solution : (q : ℕ → ℕ) → FitOn starts table q → LeftBy columns a b starts q
           → Solution (length starts) (clears_on starts) (at lo) (at hi) q
@@ -164,113 +140,51 @@ module _ (starts table : List ℕ) where
             apart = s.apart;
           }
 
-      pub better_takes : {have have' : Bool} {best best' : List ℕ} → Takes starts lo hi have best have' best'
-          → Bettered starts table (LeftBy columns a b starts) have best have' best'
-      better_takes {have} {have'} {best} {best'} t =
+      pub better_takes : {best best' : Option (List ℕ)} → Takes starts lo hi best best'
+          → Bettered starts table (LeftBy columns a b starts) best best'
+      better_takes t =
           record {
             kept = t.kept;
             added = λ q f p. t.added q (fit_solution q f p);
-            plans = λ f e.
-                ⊎_elim (λ x. subst (λ (l : List ℕ). FitOn starts table (at l)) (sym x.1) (f x.0))
-                (λ s. solution_fit (at best') s) (t.from e);
+            plans = λ f b e. ⊎_elim (λ x. f b x) (λ s. (s.0, solution_fit (at b) s.1)) (t.from b e);
           }
 
-  -- Two ends.
-  pub end_may : (q : ℕ → ℕ) → FitOn starts table q → (a d : ℕ) → (a < length starts → q a ≡ d)
-      → cond (ltb a (length starts)) (alone_in table a d) true ≡ true
-  end_may q f a d g =
-      by_lt a (length starts)
-      (λ l. rw (lt-ltb a (length starts) l) (ap (alone_in table a) (sym (g l)) ∙ f.open_path a l))
-      (λ l. rw (le-ltb a (length starts) l))
-
-  -- an end that may not go its way
-  pub end_refused : (r : Bool) (k d : ℕ) → r ≡ cond (ltb k (length starts)) (alone_in table k d) true → not r ≡ true
-      → (q : ℕ → ℕ) → FitOn starts table q → (k < length starts → q k ≡ d) → ⊥
-  end_refused r k d e h q f g = true≢false (sym (e ∙ end_may q f k d g) ∙ not-true r h)
-
-  module _ (columns : Bool) (a b p r : ℕ) (ep : p ≡ end_of (length starts) (at starts) 0 a)
-      (er : r ≡ end_of (length starts) (at starts) 1023 b) where
-    pub not_tried : (t : Bool) → t ≡ tried columns p r → not t ≡ true
-        → (q : ℕ → ℕ) → FitOn starts table q → Covered (length starts) (at starts) q columns a b → ⊥
-    not_tried t et h q f c =
-        true≢false (sym c.is_tried ∙ sym (λ i. tried columns (ep i) (er i)) ∙ sym et ∙ not-true t h)
-
-    pub covered_left : (q : ℕ → ℕ) → Covered (length starts) (at starts) q columns a b → LeftBy columns p r starts q
-    covered_left q c k l = (λ i. leaves columns (ep i) (er i) (at starts k) (q k)) ∙ c.each k l
-
--- the direction of an end
-pub end_way : (columns : Bool) (x y d : ℕ) → 1 ≤ x → x ≤ 4 → 1 ≤ y → y ≤ 4 → d ≡ cond columns x y → (1 ≤ d) × (d ≤ 4)
-end_way true x y d a b c g e = (omega arith, omega arith)
-end_way false x y d a b c g e = (omega arith, omega arith)
-
 -- A loop over ends.
-pub none_below : (P : ℕ → (ℕ → ℕ) → Type 0) (q : ℕ → ℕ) → SomeBelow P 0 q → ⊥
-none_below P q s = omega (arith, s.below)
-
 pub next_below : (P : ℕ → (ℕ → ℕ) → Type 0) (t : ℕ) (q : ℕ → ℕ) → SomeBelow P (t + 1) q → SomeBelow P t q ⊎ P t q
 next_below P t q s =
     by_lt s.k t (λ l. inl (record { k = s.k; below = l; is = s.is }))
     (λ l. let e : s.k ≡ t = omega (arith, s.below) in inr (subst (λ (k : ℕ). P k q) e s.is))
 
-pub all_below : (P : ℕ → (ℕ → ℕ) → Type 0) (t u : ℕ) → t ≤ u → (q : ℕ → ℕ) → SomeBelow P t q → SomeBelow P u q
-all_below P t u h q s = record { k = s.k; below = omega (arith, s.below); is = s.is }
-
 -- The table.
 module _ (n m : ℕ) (grid starts : List ℕ) where
-  abbrev entry : ℕ → ℕ
-  entry j = cond (is_open n m grid (at starts (j / 4)) (j % 4 + 1)) 1 0
+  abbrev entry : ℕ → Bool
+  entry j = is_open n m grid (at starts (j / 4)) (j % 4 + 1)
 
-  pub record Tabling (i : ℕ) (table : List ℕ) : Type 0 where
+  pub record Tabling (i : ℕ) (table : List Bool) : Type 0 where
     pub within : i ≤ 4 * length starts
     pub long : length table ≡ 512
-    pub front : (j : ℕ) → j < i → at table j ≡ entry j
+    pub front : (j : ℕ) → j < i → get_or table j false ≡ entry j
 
-  pub table_start : {table : List ℕ} → length table ≡ 512 → Tabling 0 table
+  pub table_start : {table : List Bool} → length table ≡ 512 → Tabling 0 table
   table_start h = record { within = omega arith; long = h; front = λ j l. absurd (omega arith) }
 
-  module _ {i : ℕ} {table : List ℕ} (s : Tabling i table) where
-    pub table_next : (v : ℕ) (r : Bool) (p : ℕ) → i < 4 * length starts → length starts ≤ 128 → p ≡ at starts (i / 4)
-        → r ≡ is_open n m grid p (i % 4 + 1) → v ≡ cond r 1 0 → Tabling (i + 1) (set table i v)
-    table_next v r p l room ep er ev =
+  module _ {i : ℕ} {table : List Bool} (s : Tabling i table) where
+    pub table_next : (r : Bool) (p : ℕ) → i < 4 * length starts → length starts ≤ 128 → p ≡ at starts (i / 4)
+        → r ≡ is_open n m grid p (i % 4 + 1) → Tabling (i + 1) (set table i r)
+    table_next r p l room ep er =
         record {
           within = omega arith;
-          long = length-set table i v ∙ s.long;
+          long = length-set table i r ∙ s.long;
           front =
-              below_more (λ j. at (set table i v) j ≡ entry j) i
-              (λ j b. get_or-set_other table i j v 0 (λ e. omega arith) ∙ s.front j b)
-              (get_or-set_same table i v 0 (omega (arith, s.long)) ∙ ev
-              ∙ ap (λ (z : Bool). cond z 1 0) (er ∙ ap (λ (z : ℕ). is_open n m grid z (i % 4 + 1)) ep));
+              below_more (λ j. get_or (set table i r) j false ≡ entry j) i
+              (λ j b. get_or-set_other table i j r false (λ e. omega arith) ∙ s.front j b)
+              (get_or-set_same table i r false (omega (arith, s.long)) ∙ er
+              ∙ ap (λ (z : ℕ). is_open n m grid z (i % 4 + 1)) ep);
         }
-
-    one_of : (b : Bool) → eqb (cond b 1 0) 1 ≡ b
-    one_of true = refl
-    one_of false = refl
 
     pub table_end : 4 * length starts ≤ i → Tabled n m grid starts table
     table_end h k d l x y =
         let j = 4 * k + d - 1 in
         let ek : j / 4 ≡ k = omega arith in
         let ed : j % 4 + 1 ≡ d = omega arith in
-        ap (λ (z : ℕ). eqb z 1) (s.front j (omega arith)) ∙ one_of (is_open n m grid (at starts (j / 4)) (j % 4 + 1))
-        ∙ (λ z. is_open n m grid (at starts (ek z)) (ed z))
-
--- none of the four entries of fault k is 1
-module _ (k i : ℕ) (table : List ℕ) (e : i ≡ 4 * k) where
-  abbrev is_one : ℕ → Bool
-  is_one j = eqb (at table j) 1
-
-  there : (d j : ℕ) → 4 * k + d - 1 ≡ j → is_one j ≡ false → alone_in table k d ≡ false
-  there d j z f = ap is_one z ∙ f
-
-  none_one : (is_one i || is_one (i + 1)) ≡ false → (is_one (i + 2) || is_one (i + 3)) ≡ false → (d : ℕ) → Way d →
-      alone_in table k d ≡ false
-  none_one v h d south = there 1 i (omega arith) (or_false (is_one i) (is_one (i + 1)) v).0
-  none_one v h d north = there 2 (i + 1) (omega arith) (or_false (is_one i) (is_one (i + 1)) v).1
-  none_one v h d east = there 3 (i + 2) (omega arith) (or_false (is_one (i + 2)) (is_one (i + 3)) h).0
-  none_one v h d west = there 4 (i + 3) (omega arith) (or_false (is_one (i + 2)) (is_one (i + 3)) h).1
-
-  pub stuck_here : (count : ℕ) → k < count
-      → not ((is_one i || is_one (i + 1)) || (is_one (i + 2) || is_one (i + 3))) ≡ true → Stuck count table
-  stuck_here count l h =
-      let f = or_false (is_one i || is_one (i + 1)) (is_one (i + 2) || is_one (i + 3)) (not-true _ h) in
-      record { k = k; below = l; none = λ d x y. none_one f.0 f.1 d (way d x y) }
+        s.front j (omega arith) ∙ (λ z. is_open n m grid (at starts (ek z)) (ed z))

@@ -9,12 +9,12 @@ use native.Mathlib.Nat.{le_of_suc-le-suc, not-suc-le-zero}
 use native.Mathlib.Omega.{arith}
 use borrow.Author.Count.{below_more}
 use lib.Dec.{eqb}
-use lib.ListN.{length, set, get_or, length-set, replicate, get_or-replicate}
+use lib.ListN.{length, set, get_or, length-set}
 use lib.Seq.{get_or-set_same, get_or-set_other}
 use Rattle.array.proofs.Bools.{by_eq}
-use Rattle.exact.specs.Options.{at, Later, NotLater, Solution, NoSolution, FirstSolution, ClosedAt, Narrowed}
-use Rattle.exact.specs.Inner.{Judged, clears_on, Spreadable, Held, Keeps, Marked, Closed, Struck, Spread, Settled, Unsettled, Next}
-use Rattle.exact.proofs.Options.{low_in, high_in, stays, still_one, narrow_none, narrow_more, closed_still, survives, changed}
+use Rattle.exact.specs.Options.{at, Later, Solution, NoSolution, FirstSolution, ClosedAt, Narrowed}
+use Rattle.exact.specs.Inner.{Judged, clears_on, Spreadable, Held, Keeps, Marked, Closed, Struck, Spread, Settled, Fresh}
+use Rattle.exact.proofs.Options.{low_in, high_in, stays, still_one, narrow_more, closed_still, survives, changed}
 use Rattle.exact.proofs.Listing.{still_listed}
 use Rattle.exact.proofs.Striking.{still_held}
 
@@ -41,34 +41,20 @@ pub marked_still : {count : ℕ} {clears : ℕ → ℕ → ℕ → ℕ → Bool}
 marked_still {count} {clears} t m f l ne = closed_still count clears t f l (m f l ne)
 
 module _ (count : ℕ) (clears : ℕ → ℕ → ℕ → ℕ → Bool) where
-  pub record Spreading (lo hi : List ℕ) (lo' hi' done : List ℕ) (f : ℕ) : Type 0 where
+  pub record Spreading (lo hi : List ℕ) (lo' hi' done : List ℕ) : Type 0 where
     pub done_long : length done ≡ 128
     pub held : Held count lo' hi'
     pub narrowed : Narrowed count (at lo) (at hi) (at lo') (at hi')
     pub keeps : Keeps count clears (at lo) (at hi) (at lo') (at hi')
     pub marked : Marked count clears (at lo') (at hi') (at done)
-    pub next : Next 0 count (at lo') (at hi') (at done) f
 
-  pub spread_start : {lo hi done : List ℕ} {f : ℕ} → Held count lo hi → length done ≡ 128 → Marked count clears (at
-      lo) (at hi) (at done)
-      → Next 0 count (at lo) (at hi) (at done) f → Spreading lo hi lo hi done f
-  spread_start {lo} {hi} h d m x = record {
-    done_long = d;
-    held = h;
-    narrowed = narrow_none count (at lo) (at hi);
-    keeps = λ q s. s;
-    marked = m;
-    next = x;
-  }
-
-  module _ {lo hi lo' hi' done : List ℕ} {f : ℕ} (s : Spreading lo hi lo' hi' done f) where
+  module _ {lo hi lo' hi' done : List ℕ} (s : Spreading lo hi lo' hi' done) where
     pub spread_none : NoSolution count clears (at lo') (at hi') → NoSolution count clears (at lo) (at hi)
     spread_none h q z = h q (s.keeps q z)
 
-    pub spread_next : {lo'' hi'' : List ℕ} {g : ℕ} → f < count → Held count lo'' hi''
-        → Struck count clears (at lo') (at hi') (at lo'') (at hi'') f
-        → Next 0 count (at lo'') (at hi'') (at (set done f 1)) g → Spreading lo hi lo'' hi'' (set done f 1) g
-    spread_next {lo''} {hi''} {g} l h t n = record {
+    pub spread_next : {lo'' hi'' : List ℕ} {f : ℕ} → Held count lo'' hi''
+        → Struck count clears (at lo') (at hi') (at lo'') (at hi'') f → Spreading lo hi lo'' hi'' (set done f 1)
+    spread_next {lo''} {hi''} {f} h t = record {
       done_long = length-set done f 1 ∙ s.done_long;
       held = h;
       narrowed = narrow_more s.narrowed t.narrowed;
@@ -77,19 +63,10 @@ module _ (count : ℕ) (clears : ℕ → ℕ → ℕ → ℕ → Bool) where
           by_eq j f (λ e. subst (ClosedAt count clears (at lo'') (at hi'')) (sym e) t.closed)
           (λ o. closed_still count clears t.narrowed j b (s.marked j b (λ e. ne (get_or-set_other done f j 1 0 o ∙
           e))));
-      next = n;
     }
 
-    pub spread_less : f < count → suc (unmarked (set done f 1)) ≡ unmarked done
-    spread_less l = mark_less done f (omega (arith, s.done_long, s.held.room)) (s.next.new l)
-
-    pub spread_end : count ≤ f → Spread count clears (at lo) (at hi) (at lo') (at hi') (at done)
-    spread_end h = record {
-      narrowed = s.narrowed;
-      keeps = s.keeps;
-      closed = λ j b e. s.marked j b (s.next.all h j (omega arith) b e);
-      marked = s.marked;
-    }
+    pub spread_less : {f : ℕ} → Fresh count (at lo') (at hi') (at done) f → suc (unmarked (set done f 1)) ≡ unmarked done
+    spread_less {f} x = mark_less done f (omega (arith, s.done_long, s.held.room, x.below)) x.new
 
   -- Settling fault k.
   module _ (lo hi : List ℕ) (held : Held count lo hi) (k : ℕ) (below : k < count) where
@@ -182,18 +159,6 @@ module _ (count : ℕ) (clears : ℕ → ℕ → ℕ → ℕ → Bool) where
       pub none_up : NoSolution count clears (at low_up) (at hi) → NoSolution count clears (at lo) (at hi)
       none_up h q z = h q (going_up q z)
 
-    -- or with the one that it has
-    pub settled_already : {done : ℕ → ℕ} → at lo k ≡ at hi k → Closed count clears (at lo) (at hi) → Marked count
-        clears (at lo) (at hi) done
-        → Settled count clears k (at lo) (at hi) (at lo) (at hi) done
-    settled_already e c m = record {
-      narrowed = narrow_none count (at lo) (at hi);
-      closed = c;
-      marked = m;
-      one = e;
-      least = λ q z. inl z;
-    }
-
   -- what is found after closing is what was asked for
   module _ {lo hi lo' hi' done : ℕ → ℕ} (s : Spread count clears lo hi lo' hi' done) where
     pub after_first : {q : ℕ → ℕ} → FirstSolution count clears lo' hi' q → FirstSolution count clears lo hi q
@@ -226,21 +191,6 @@ module _ (count : ℕ) (clears : ℕ → ℕ → ℕ → ℕ → Bool) where
         Later k (at lo') q
 
   module _ (comm : (i d j e : ℕ) → clears i d j e ≡ clears j e i d) where
-    pub solve_start : {lo hi done : List ℕ} → length done ≡ 128 → Held count lo hi → Closed count clears (at lo) (at hi)
-        → Marked count clears (at lo) (at hi) (at done) → Solving lo hi 0 lo hi done
-    solve_start {lo = lo} {hi = hi} d h closed marked =
-        record {
-          within = omega arith;
-          done_long = d;
-          held = h;
-          narrowed = narrow_none count (at lo) (at hi);
-          closed = closed;
-          marked = marked;
-          ones = λ j l. absurd (omega arith);
-          some = λ none. none;
-          least = λ q z. inl z;
-        }
-
     module _ {lo hi lo' hi' done : List ℕ} {k : ℕ} (s : Solving lo hi k lo' hi' done) where
       pub solve_none : NoSolution count clears (at lo') (at hi') → NoSolution count clears (at lo) (at hi)
       solve_none = s.some
@@ -301,104 +251,43 @@ module _ (count : ℕ) (clears : ℕ → ℕ → ℕ → ℕ → Bool) where
                 (s.least q z);
           }
 
--- Comparing.
-module _ (count : ℕ) (a b : List ℕ) where
-  pub record Comparing (k : ℕ) : Type 0 where
-    pub within : k ≤ count
-    pub same : (j : ℕ) → j < k → at b j ≡ at a j
-
-  pub compare_start : Comparing 0
-  compare_start = record { within = omega arith; same = λ j l. absurd (omega arith) }
-
-  module _ (k : ℕ) (s : Comparing k) where
-    pub compare_less : k < count → at a k < at b k → Later count (at a) (at b)
-    compare_less l h = record { i = k; below = l; before = s.same; more = h }
-
-    pub compare_more : k < count → at b k < at a k → NotLater count (at b) (at a)
-    compare_more l h = inr (record { i = k; below = l; before = λ j c. sym (s.same j c); more = h })
-
-    pub compare_next : k < count → at b k ≤ at a k → at a k ≤ at b k → Comparing (k + 1)
-    compare_next l h g = record {
-      within = omega arith;
-      same = below_more (λ j. at b j ≡ at a j) k s.same (omega arith);
-    }
-
-    pub compare_end : count ≤ k → NotLater count (at b) (at a)
-    compare_end h = inl (λ j l. sym (s.same j (omega arith)))
-
--- The two tries of one fault, over buffers that are copies.
-module _ {clashes starts lists ends rest lo hi done : List ℕ} (k : ℕ)
-    (s : Spreadable clashes starts lists ends rest lo hi done) (below : k < length starts) where
+-- The two tries of one fault.
+module _ {starts lists ends rest lo hi done : List ℕ} (k : ℕ)
+    (s : Spreadable starts lists ends rest lo hi done) (below : k < length starts) where
   abbrev faults : ℕ
   faults = length starts
 
   abbrev clear : ℕ → ℕ → ℕ → ℕ → Bool
   clear = clears_on starts
 
-  pub down_ready : {low high marks : List ℕ} → low ≡ lo → high ≡ hi → marks ≡ done
-      → Spreadable clashes starts lists ends rest low (set high k (at lo k)) marks
-  down_ready {low} {high} {marks} x y z =
-      rw (x, y, z) (record {
-        sited = s.sited;
-        held = down_held faults clear lo hi s.held k below;
-        listed = still_listed (narrow_down faults clear lo hi s.held k below) s.listed;
-        done_long = s.done_long;
-        marked = marked_still (narrow_down faults clear lo hi s.held k below) s.marked;
-      })
-
-  pub down_yes : {low high : List ℕ} {lo' hi' done' : ℕ → ℕ} → low ≡ lo → high ≡ hi → at lo k < at hi k
-      → Spread faults clear (at low) (at (set high k (at lo k))) lo' hi' done'
-      → Settled faults clear k (at lo) (at hi) lo' hi' done'
-  down_yes {low} {high} {lo'} {hi'} {done'} x y l t =
-      settled_down faults clear lo hi s.held k below l
-      (subst (λ (h : List ℕ). Spread faults clear (at lo) (at (set h k (at lo k))) lo' hi' done') y
-      (subst (λ (h : List ℕ). Spread faults clear (at h) (at (set high k (at lo k))) lo' hi' done') x t))
-
-  pub down_no : {low high : List ℕ} → low ≡ lo → high ≡ hi
-      → NoSolution faults clear (at low) (at (set high k (at lo k)))
-      → Unsettled faults clear k lo hi done lo hi done
-  down_no {low} {high} x y t = record {
-    same_low = refl;
-    same_high = refl;
-    same_done = refl;
-    not_low = not_down faults clear lo hi s.held k below
-        (subst (λ (h : List ℕ). NoSolution faults clear (at lo) (at (set h k (at lo k)))) y
-        (subst (λ (h : List ℕ). NoSolution faults clear (at h) (at (set high k (at lo k)))) x t));
+  pub down_ready : Spreadable starts lists ends rest lo (set hi k (at lo k)) done
+  down_ready = record {
+    held = down_held faults clear lo hi s.held k below;
+    listed = still_listed (narrow_down faults clear lo hi s.held k below) s.listed;
+    done_long = s.done_long;
+    marked = marked_still (narrow_down faults clear lo hi s.held k below) s.marked;
   }
 
-  module _ {lo₁ hi₁ done₁ : List ℕ} (u : Unsettled faults clear k lo hi done lo₁ hi₁ done₁) where
-    pub up_ready : Spreadable clashes starts lists ends rest (set lo₁ k (at hi₁ k)) hi₁ done₁
-    up_ready =
-        rw (u.same_low, u.same_high, u.same_done) (record {
-          sited = s.sited;
-          held = up_held faults clear lo hi s.held k below;
-          listed = still_listed (narrow_up faults clear lo hi s.held k below) s.listed;
-          done_long = s.done_long;
-          marked = marked_still (narrow_up faults clear lo hi s.held k below) s.marked;
-        })
+  pub up_ready : Spreadable starts lists ends rest (set lo k (at hi k)) hi done
+  up_ready = record {
+    held = up_held faults clear lo hi s.held k below;
+    listed = still_listed (narrow_up faults clear lo hi s.held k below) s.listed;
+    done_long = s.done_long;
+    marked = marked_still (narrow_up faults clear lo hi s.held k below) s.marked;
+  }
 
-    pub up_judged : {r : Bool} {lo' hi' done' : ℕ → ℕ}
-        → Judged r (Spread faults clear (at (set lo₁ k (at hi₁ k))) (at hi₁) lo' hi' done') (NoSolution faults clear
-        (at (set lo₁ k (at hi₁ k))) (at hi₁))
-        → Judged r (Settled faults clear k (at lo) (at hi) lo' hi' done') (NoSolution faults clear (at lo) (at hi))
-    up_judged {r} {lo'} {hi'} {done'} j =
-        let i =
-        subst (λ (h : List ℕ). Judged r (Spread faults clear (at (set lo k (at h k))) (at h) lo' hi' done')
-        (NoSolution faults clear (at (set lo k (at h k))) (at h))) u.same_high
-        (subst (λ (l : List ℕ). Judged r (Spread faults clear (at (set l k (at hi₁ k))) (at hi₁) lo' hi' done')
-        (NoSolution faults clear (at (set l k (at hi₁ k))) (at hi₁))) u.same_low j) in
-        record {
-          yes = λ e. settled_up faults clear lo hi s.held k below u.not_low (i.yes e);
-          no = λ e. none_up faults clear lo hi s.held k below u.not_low (i.no e);
-        }
+  pub down_yes : {lo' hi' done' : ℕ → ℕ} → (at lo k ≡ at hi k → ⊥)
+      → Spread faults clear (at lo) (at (set hi k (at lo k))) lo' hi' done'
+      → Settled faults clear k (at lo) (at hi) lo' hi' done'
+  down_yes ne t = let o = s.held.ordered k below in settled_down faults clear lo hi s.held k below (omega arith) t
 
--- copied back
-pub settled_copied : {count : ℕ} {clears : ℕ → ℕ → ℕ → ℕ → Bool} {k : ℕ} {lo hi : ℕ → ℕ} {lo' hi' done' x y z : List ℕ}
-    → x ≡ lo' → y ≡ hi' → z ≡ done' → Settled count clears k lo hi (at lo') (at hi') (at done') → Settled count
-    clears k lo hi (at x) (at y) (at z)
-settled_copied ex ey ez s = rw (ex, ey, ez) s
-
--- nothing marked
-pub zeros_marked : {count : ℕ} {clears : ℕ → ℕ → ℕ → ℕ → Bool} {lo hi : ℕ → ℕ} → count ≤ 128
-    → Marked count clears lo hi (at (replicate 128 0))
-zeros_marked r f l ne = absurd (ne (get_or-replicate 128 f 0 0 (omega arith)))
+  pub up_judged : {r : Bool} {lo' hi' done' : ℕ → ℕ} → NoSolution faults clear (at lo) (at (set hi k (at lo k)))
+      → Judged r (Spread faults clear (at (set lo k (at hi k))) (at hi) lo' hi' done')
+      (NoSolution faults clear (at (set lo k (at hi k))) (at hi))
+      → Judged r (Settled faults clear k (at lo) (at hi) lo' hi' done') (NoSolution faults clear (at lo) (at hi))
+  up_judged none j =
+      let never = not_down faults clear lo hi s.held k below none in
+      record {
+        yes = λ e. settled_up faults clear lo hi s.held k below never (j.yes e);
+        no = λ e. none_up faults clear lo hi s.held k below never (j.no e);
+      }

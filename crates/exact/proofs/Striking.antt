@@ -1,18 +1,18 @@
 -- The loops that close one fault: every other fault keeps the options that pass with its one option.
 -- Assumes nothing.
-use Prim.Native.Nat.{ℕ, ◌+◌, ◌≤◌, ◌<◌}
+use Prim.Native.Nat.{ℕ, ◌+◌, ◌-◌, ◌≤◌, ◌<◌}
 use mathlib.Core.Path.{◌≡◌, refl, sym, ap, ◌∙◌}
-use mathlib.Core.Bool.{Bool, true, false, cond, not, ◌||◌, true≢false, false≢true}
+use mathlib.Core.Bool.{Bool, true, false, cond, ◌||◌, true≢false, false≢true}
 use mathlib.Core.Logic.{◌⊎◌, inl, inr, ⊎_elim}
 use mathlib.Core.List.{List}
 use native.Mathlib.Omega.{arith}
-use borrow.Author.Tests.{not-true}
-use lib.ListN.{length, set, length-set}
-use lib.Seq.{get_or-set_same, get_or-set_other, set-get_or}
+use lib.ListN.{length, set, take, drop, length-set}
+use Rattle.std.proofs.lemmas.List.{length-take, length-drop, get_or-take, get_or-drop}
+use lib.Seq.{get_or-set_same, get_or-set_other}
 use Rattle.array.proofs.Bools.{by_eq, by_lt, or_false}
 use Rattle.exact.specs.Options.{at, Solution, NoSolution, Narrowed}
-use Rattle.exact.specs.Inner.{Judged, clears_on, Option, Named, Row, Held, Keeps, Striking, Struck, StrikesOne}
-use Rattle.exact.proofs.Options.{low_in, high_in, stays, still_one, still_ordered, narrow_none, narrow_more}
+use Rattle.exact.specs.Inner.{Judged, OneOf, Named, Row, Held, Keeps, Striking, Struck}
+use Rattle.exact.proofs.Options.{low_in, high_in, stays, still_one, still_ordered, narrow_more}
 
 -- answers
 pub judge_yes : {A B : Type 0} → A → Judged true A B
@@ -56,67 +56,10 @@ one_of : (b : Bool) {x y : ℕ} → y ≡ x → cond b x y ≡ x
 one_of true e = refl
 one_of false e = e
 
--- one fault
-module _ (starts lo hi : List ℕ) (f d g : ℕ) where
-  or_same : (a : Bool) → a ≡ (a || a)
-  or_same true = refl
-  or_same false = refl
-
-  -- with one option, which passes or not
-  pub one_struck : {a : Bool} → a ≡ clears_on starts f d g (at lo g) → at lo g ≡ at hi g
-      → StrikesOne starts lo hi f d g a lo hi
-  one_struck {a} ea one =
-      let b : a ≡ clears_on starts f d g (at hi g) = ea ∙ ap (clears_on starts f d g) one in
-      let same : cond (clears_on starts f d g (at lo g)) (at lo g) (at hi g) ≡ at lo g = one_of (clears_on starts f d
-      g (at lo g)) (sym one) in
-      let same-too : cond (clears_on starts f d g (at hi g)) (at hi g) (at lo g) ≡ at hi g = one_of (clears_on starts
-      f d g (at hi g)) one in (
-        or_same a ∙ (λ i. ea i || b i),
-        record {
-          yes = λ e. (sym (ap (set lo g) same ∙ set-get_or lo g 0), sym (ap (set hi g) same-too ∙ set-get_or hi g 0));
-          no = λ e. (refl, refl);
-        },
-      )
-
-  pub none_struck : {a b : Bool} → a ≡ clears_on starts f d g (at lo g) → b ≡ clears_on starts f d g (at hi g)
-      → not (a || b) ≡ true → StrikesOne starts lo hi f d g false lo hi
-  none_struck {a} {b} ea eb h = (
-    sym (not-true (a || b) h) ∙ (λ i. ea i || eb i),
-    record {
-      yes = λ e. absurd
-          (false≢true e);
-      no = λ e. (refl, refl);
-    },
-  )
-
-  pub two_struck : {a b : Bool} {x y : ℕ} → a ≡ clears_on starts f d g (at lo g) → b ≡ clears_on starts f d g (at hi g)
-      → (a || b) ≡ true → x ≡ cond a (at lo g) (at hi g) → y ≡ cond b (at hi g) (at lo g)
-      → StrikesOne starts lo hi f d g true (set lo g x) (set hi g y)
-  two_struck {a} {b} ea eb h ex ey = (
-    sym h ∙ (λ i. ea i || eb i),
-    record {
-      yes = λ e. (
-        ap (set lo g) (ex ∙ ap (λ (t : Bool). cond t (at lo g) (at hi g)) ea),
-        ap (set hi g) (ey ∙ ap (λ (t : Bool). cond t (at hi g) (at lo g)) eb),
-      );
-      no = λ e. absurd (true≢false e);
-    },
-  )
-
 module _ (count : ℕ) (clears : ℕ → ℕ → ℕ → ℕ → Bool) (lo hi : List ℕ) (f : ℕ) (below : f < count) (one : at lo f ≡ at
     hi f) where
   abbrev Now : (ℕ → Type 0) → List ℕ → List ℕ → Type 0
   Now P lo' hi' = Striking count clears lo hi f P lo' hi'
-
-  pub strike_start : {P : ℕ → Type 0} → ((j : ℕ) → P j → ⊥) → Held count lo hi → Now P lo hi
-  strike_start none h = record {
-    low_same = refl;
-    high_same = refl;
-    held = h;
-    narrowed = narrow_none count (at lo) (at hi);
-    keeps = λ q s. s;
-    passed = λ j l p. absurd (none j p);
-  }
 
   -- the same faults, or fewer
   pub strike_less : {P Q : ℕ → Type 0} {lo' hi' : List ℕ} → ((j : ℕ) → j < count → Q j → (f ≡ j → ⊥) → P j)
@@ -149,9 +92,9 @@ module _ (count : ℕ) (clears : ℕ → ℕ → ℕ → ℕ → Bool) (lo hi : 
           (λ e. inr (e, eb ∙ sym (λ i. clears f (has_one q z i) g (e i)) ∙ p))
           (z.within g l)
 
-      pub strike_none : not (a || b) ≡ true → NoSolution count clears (at lo) (at hi)
+      pub strike_none : (a || b) ≡ false → NoSolution count clears (at lo) (at hi)
       strike_none h q z =
-          let x = or_false a b (not-true (a || b) h) in
+          let x = or_false a b h in
           ⊎_elim (λ e. true≢false (sym e.1 ∙ x.0)) (λ e. true≢false (sym e.1 ∙ x.1)) (passes q (s.keeps q z))
 
       abbrev lo'' : List ℕ
@@ -250,10 +193,6 @@ module _ (count : ℕ) (clears : ℕ → ℕ → ℕ → ℕ → Bool) (lo hi : 
             → Now Q l h
         strike_on less el eh = rw (el, eh) (strike_next less)
 
--- the faults in the places passed
-pub named_none : {lists : List ℕ} {i : ℕ} (j : ℕ) → Named lists i i j → ⊥
-named_none j n = omega (arith, n.from, n.below)
-
 pub named_less : {lists : List ℕ} {begin i : ℕ} (j : ℕ) → Named lists begin (i + 1) j → (j ≡ at lists i → ⊥)
     → Named lists begin i j
 named_less {lists} {begin} {i} j n o =
@@ -265,14 +204,25 @@ named_less {lists} {begin} {i} j n o =
       is = n.is;
     }
 
-pub named_all : {lists : List ℕ} {begin end i : ℕ} → end ≤ i → (j : ℕ) → Named lists begin end j → Named lists begin i j
-named_all h j n =
-    let b = n.below in
-    record { place = n.place; from = n.from; below = omega arith; is = n.is }
+-- a part of the lists
+pub named_part : {lists : List ℕ} {b e j : ℕ} (begin end : ℕ) → begin ≡ b → end ≡ e → e ≤ length lists → Named lists b e j
+    → Named (take (end - begin) (drop begin lists)) 0 (length (take (end - begin) (drop begin lists))) j
+named_part {lists} {b} {e} {j} begin end x y room n =
+    let from = n.from in
+    let below = n.below in
+    let i = n.place - begin in
+    let within : i < end - begin = omega arith in
+    let here : begin + i ≡ n.place = omega arith in
+    record {
+      place = i;
+      from = omega arith;
+      below = omega (arith, length-take (end - begin) (drop begin lists), length-drop begin lists);
+      is = get_or-take (end - begin) (drop begin lists) i 0 within ∙ get_or-drop begin lists i 0 ∙ ap (at lists) here ∙ n.is;
+    }
 
 -- the faults that row f names, then those from its rest on: the others pass
 module _ {count : ℕ} {clears : ℕ → ℕ → ℕ → ℕ → Bool} {lists lo hi : List ℕ} {f begin end rest : ℕ} (below : f < count)
-    (one : at lo f ≡ at hi f) (r : Row count clears (Option (at lo) (at hi)) lists f begin end rest)
+    (one : at lo f ≡ at hi f) (r : Row count clears (OneOf (at lo) (at hi)) lists f begin end rest)
     {lo' hi' lo'' hi'' : List ℕ} (s : Striking count clears lo hi f (Named lists begin end) lo' hi')
     (t : Striking count clears lo' hi' f (λ j. rest ≤ j) lo'' hi'') where
   narrowed : Narrowed count (at lo) (at hi) (at lo'') (at hi'')

@@ -1,12 +1,12 @@
 -- What the inner parts of the exact planner ask and promise.
 -- Assumes nothing.
-use Rattle.std.specs.Prelude.{ℕ, ◌+◌, ◌*◌, ◌-◌, ◌≤◌, ◌<◌, ◌≡◌, Bool, true, false, cond, ◌&&◌, ◌||◌, ◌⊎◌, List, eqb, length, set}
+use Rattle.std.specs.Prelude.{ℕ, Option, Some, None, MatchOption, ◌+◌, ◌*◌, ◌-◌, ◌≤◌, ◌<◌, ◌≡◌, Bool, true, false, cond, ◌&&◌, ◌||◌, ◌⊎◌, List, length, get_or, set}
 use Rattle.array.specs.Place.{inner}
 use Rattle.array.specs.Buffer.{Ascending}
 use Rattle.paths.specs.Path.{is_open, clear}
 use Rattle.paths.specs.Table.{ClashTable}
 use Rattle.exact.specs.Masks.{leaves}
-use Rattle.exact.specs.Options.{at, NotLater, Solution, NoSolution, FirstSolution, ClosedAt, Narrowed}
+use Rattle.exact.specs.Options.{at, Later, NotLater, Solution, NoSolution, FirstSolution, ClosedAt, Narrowed}
 use Rattle.exact.specs.Problem.{Fit, Covered}
 
 -- a yes that promises A, a no that promises B
@@ -36,8 +36,8 @@ pub record Held (count : ℕ) (lo hi : List ℕ) : Type 0 where
   pub high : (k : ℕ) → k < count → at hi k ≤ 4
 
 -- the options of fault k
-abbrev pub Option : (ℕ → ℕ) → (ℕ → ℕ) → ℕ → ℕ → Type 0
-Option lo hi k x = (x ≡ lo k) ⊎ (x ≡ hi k)
+abbrev pub OneOf : (ℕ → ℕ) → (ℕ → ℕ) → ℕ → ℕ → Type 0
+OneOf lo hi k x = (x ≡ lo k) ⊎ (x ≡ hi k)
 
 -- every direction that fault f may have passes with every one that fault h may have
 abbrev pub Passes : (ℕ → ℕ → ℕ → ℕ → Bool) → (ℕ → ℕ → Type 0) → ℕ → ℕ → Type 0
@@ -125,18 +125,10 @@ module _ (count : ℕ) (clears : ℕ → ℕ → ℕ → ℕ → Bool) where
     pub one : lo' k ≡ hi' k
     pub least : (q : ℕ → ℕ) → Solution count clears lo hi q → Solution count clears lo' hi' q ⊎ (lo' k < q k)
 
--- nothing is changed, and no solution has the lesser option of fault k
-pub record Unsettled (count : ℕ) (clears : ℕ → ℕ → ℕ → ℕ → Bool) (k : ℕ) (lo hi done lo' hi' done' : List ℕ) : Type 0 where
-  pub same_low : lo' ≡ lo
-  pub same_high : hi' ≡ hi
-  pub same_done : done' ≡ done
-  pub not_low : (q : ℕ → ℕ) → Solution count clears (at lo) (at hi) q → q k ≡ at lo k → ⊥
-
 -- what the propagation works over
-pub record Spreadable (clashes starts lists ends rest lo hi done : List ℕ) : Type 0 where
-  pub sited : Sited clashes starts
+pub record Spreadable (starts lists ends rest lo hi done : List ℕ) : Type 0 where
   pub held : Held (length starts) lo hi
-  pub listed : Listed (length starts) (clears_on starts) (Option (at lo) (at hi)) lists ends rest
+  pub listed : Listed (length starts) (clears_on starts) (OneOf (at lo) (at hi)) lists ends rest
   pub done_long : length done ≡ 128
   pub marked : Marked (length starts) (clears_on starts) (at lo) (at hi) (at done)
 
@@ -170,13 +162,6 @@ module _ (starts : List ℕ) where
       × Judged r (Spread (length starts) (clears_on starts) (at lo) (at hi) (at lo') (at hi') (at done'))
       (NoSolution (length starts) (clears_on starts) (at lo) (at hi))
 
-  -- the lesser option of fault k, or nothing changed
-  abbrev pub SettlesLow : ℕ → List ℕ → List ℕ → List ℕ → Bool → List ℕ → List ℕ → List ℕ → Type 0
-  SettlesLow k lo hi done r lo' hi' done' =
-      Held (length starts) lo' hi' × (length done' ≡ 128)
-      × Judged r (Settled (length starts) (clears_on starts) k (at lo) (at hi) (at lo') (at hi') (at done'))
-      (Unsettled (length starts) (clears_on starts) k lo hi done lo' hi' done')
-
   abbrev pub Settles : ℕ → List ℕ → List ℕ → Bool → List ℕ → List ℕ → List ℕ → Type 0
   Settles k lo hi r lo' hi' done' =
       Held (length starts) lo' hi' × (length done' ≡ 128)
@@ -189,19 +174,22 @@ module _ (starts : List ℕ) where
       × Judged r (FirstSolution (length starts) (clears_on starts) (at lo) (at hi) (at lo'))
       (NoSolution (length starts) (clears_on starts) (at lo) (at hi))
 
--- one of these faults that has one option and is not marked; or how many there are, where none from a number on is such
-pub record Next (from count : ℕ) (lo hi done : ℕ → ℕ) (f : ℕ) : Type 0 where
-  pub within : f ≤ count
-  pub one : f < count → lo f ≡ hi f
-  pub new : f < count → done f ≡ 0
-  pub all : count ≤ f → (k : ℕ) → from ≤ k → k < count → lo k ≡ hi k → done k ≡ 0 → ⊥
+-- one of these faults that has one option and is not marked, or none of those from a number on
+pub record Fresh (count : ℕ) (lo hi done : ℕ → ℕ) (f : ℕ) : Type 0 where
+  pub below : f < count
+  pub one : lo f ≡ hi f
+  pub new : done f ≡ 0
+
+abbrev pub Next : ℕ → ℕ → (ℕ → ℕ) → (ℕ → ℕ) → (ℕ → ℕ) → Option ℕ → Type 0
+Next from count lo hi done found =
+    MatchOption found ((k : ℕ) → from ≤ k → k < count → lo k ≡ hi k → done k ≡ 0 → ⊥) (Fresh count lo hi done)
 
 -- the directions allowed alone, as a table of four for each fault
-abbrev pub alone_in : List ℕ → ℕ → ℕ → Bool
-alone_in table k d = eqb (at table (4 * k + d - 1)) 1
+abbrev pub alone_in : List Bool → ℕ → ℕ → Bool
+alone_in table k d = get_or table (4 * k + d - 1) false
 
 -- the directions that a pair of ends leaves a fault
-abbrev pub offered : Bool → ℕ → ℕ → List ℕ → List ℕ → ℕ → ℕ → Bool
+abbrev pub offered : Bool → ℕ → ℕ → List ℕ → List Bool → ℕ → ℕ → Bool
 offered columns a b starts table k d = alone_in table k d && leaves columns a b (at starts k) d
 
 abbrev pub lowest : Bool → Bool → Bool → Bool → ℕ
@@ -211,54 +199,57 @@ abbrev pub highest : Bool → Bool → Bool → Bool → ℕ
 highest s n e w = cond w 4 (cond e 3 (cond n 2 (cond s 1 0)))
 
 -- lo and hi are the options that the pair leaves
-pub record Offers (columns : Bool) (a b : ℕ) (starts table lo hi : List ℕ) : Type 0 where
+pub record Offers (columns : Bool) (a b : ℕ) (starts : List ℕ) (table : List Bool) (lo hi : List ℕ) : Type 0 where
   pub held : Held (length starts) lo hi
   pub low_offered : (k : ℕ) → k < length starts → offered columns a b starts table k (at lo k) ≡ true
   pub high_offered : (k : ℕ) → k < length starts → offered columns a b starts table k (at hi k) ≡ true
   pub only : (k d : ℕ) → k < length starts → 1 ≤ d → d ≤ 4 → offered columns a b starts table k d ≡ true → (d ≡ at lo k) ⊎ (d ≡ at hi k)
 
 -- some fault is left none
-pub record Starved (columns : Bool) (a b : ℕ) (starts table : List ℕ) : Type 0 where
+pub record Starved (columns : Bool) (a b : ℕ) (starts : List ℕ) (table : List Bool) : Type 0 where
   pub k : ℕ
   pub below : k < length starts
   pub none : (d : ℕ) → 1 ≤ d → d ≤ 4 → offered columns a b starts table k d ≡ false
 
 -- some fault has no direction that is allowed alone
-pub record Stuck (count : ℕ) (table : List ℕ) : Type 0 where
+pub record Stuck (count : ℕ) (table : List Bool) : Type 0 where
   pub k : ℕ
   pub below : k < count
   pub none : (d : ℕ) → 1 ≤ d → d ≤ 4 → alone_in table k d ≡ false
 
-abbrev pub Alone : List ℕ → ℕ → ℕ → Type 0
+abbrev pub Alone : List Bool → ℕ → ℕ → Type 0
 Alone table k d = (1 ≤ d) × (d ≤ 4) × (alone_in table k d ≡ true)
 
--- what the pairs are tried over: the faults, their directions allowed alone, the lists, and room for the best plan
-pub record Ready (clashes starts table lists ends rest best : List ℕ) : Type 0 where
-  pub sited : Sited clashes starts
-  pub table_long : length table ≡ 512
-  pub listed : Listed (length starts) (clears_on starts) (Alone table) lists ends rest
-  pub best_long : length best ≡ 128
+-- A best plan so far, or none: there is one, and it is q or comes before it; and what comes before it.
+abbrev pub Ahead : ℕ → Option (List ℕ) → (ℕ → ℕ) → Type 0
+Ahead count None q = ⊥
+Ahead count (Some best) q = NotLater count (at best) q
+
+abbrev pub Before : ℕ → List ℕ → Option (List ℕ) → Type 0
+Before count a None = Unit {0}
+Before count a (Some best) = Later count (at a) (at best)
 
 -- The best so far, where there is one, and the solutions of these options: none of either comes before what is kept.
-pub record Takes (starts lo hi : List ℕ) (have : Bool) (best : List ℕ) (have' : Bool) (best' : List ℕ) : Type 0 where
-  pub kept : (q : ℕ → ℕ) → have ≡ true → NotLater (length starts) (at best) q
-      → (have' ≡ true) × NotLater (length starts) (at best') q
-  pub added : (q : ℕ → ℕ) → Solution (length starts) (clears_on starts) (at lo) (at hi) q
-      → (have' ≡ true) × NotLater (length starts) (at best') q
-  pub from : have' ≡ true
-      → ((have ≡ true) × (best' ≡ best)) ⊎ Solution (length starts) (clears_on starts) (at lo) (at hi) (at best')
+pub record Takes (starts lo hi : List ℕ) (best best' : Option (List ℕ)) : Type 0 where
+  pub kept : (q : ℕ → ℕ) → Ahead (length starts) best q → Ahead (length starts) best' q
+  pub added : (q : ℕ → ℕ) → Solution (length starts) (clears_on starts) (at lo) (at hi) q → Ahead (length starts) best' q
+  pub from : (b : List ℕ) → best' ≡ Some b
+      → (best ≡ Some b) ⊎ ((length b ≡ 128) × Solution (length starts) (clears_on starts) (at lo) (at hi) (at b))
 
 -- a plan by the table of the directions allowed alone
-abbrev pub FitOn : List ℕ → List ℕ → (ℕ → ℕ) → Type 0
+abbrev pub FitOn : List ℕ → List Bool → (ℕ → ℕ) → Type 0
 FitOn starts table q = Fit (length starts) (alone_in table) (clears_on starts) q
 
+-- such a plan in a buffer
+abbrev pub BufferFits : List ℕ → List Bool → List ℕ → Type 0
+BufferFits starts table b = (length b ≡ 128) × FitOn starts table (at b)
+
 -- The best plan so far, where there is one: what is added to the plans seen, P, and what is kept of it.
-pub record Bettered (starts table : List ℕ) (P : (ℕ → ℕ) → Type 0) (have : Bool) (best : List ℕ) (have' : Bool)
-    (best' : List ℕ) : Type 0 where
-  pub kept : (q : ℕ → ℕ) → have ≡ true → NotLater (length starts) (at best) q
-      → (have' ≡ true) × NotLater (length starts) (at best') q
-  pub added : (q : ℕ → ℕ) → FitOn starts table q → P q → (have' ≡ true) × NotLater (length starts) (at best') q
-  pub plans : (have ≡ true → FitOn starts table (at best)) → have' ≡ true → FitOn starts table (at best')
+pub record Bettered (starts : List ℕ) (table : List Bool) (P : (ℕ → ℕ) → Type 0) (best best' : Option (List ℕ)) : Type 0 where
+  pub kept : (q : ℕ → ℕ) → Ahead (length starts) best q → Ahead (length starts) best' q
+  pub added : (q : ℕ → ℕ) → FitOn starts table q → P q → Ahead (length starts) best' q
+  pub plans : ((b : List ℕ) → best ≡ Some b → BufferFits starts table b) → (b : List ℕ) → best' ≡ Some b
+      → BufferFits starts table b
 
 -- the plans that a pair of ends leaves
 abbrev pub LeftBy : Bool → ℕ → ℕ → List ℕ → (ℕ → ℕ) → Type 0
@@ -278,8 +269,12 @@ RowCovered by_columns starts a q =
 abbrev pub SomeCovered : Bool → List ℕ → (ℕ → ℕ) → Type 0
 SomeCovered by_columns starts q = SomeBelow (RowCovered by_columns starts) (length starts + 1) q
 
+-- some pair leaves each fault its direction, by rows or by columns
+abbrev pub SomeLeft : List ℕ → (ℕ → ℕ) → Type 0
+SomeLeft starts q = SomeCovered false starts q ⊎ SomeCovered true starts q
+
 -- the table holds which paths are open
-abbrev pub Tabled : ℕ → ℕ → List ℕ → List ℕ → List ℕ → Type 0
+abbrev pub Tabled : ℕ → ℕ → List ℕ → List ℕ → List Bool → Type 0
 Tabled n m grid starts table =
     (k d : ℕ) → k < length starts → 1 ≤ d → d ≤ 4 → alone_in table k d ≡ is_open n m grid (at starts k) d
 

@@ -10,18 +10,18 @@ use Rattle.formats.specs.declared.Kind.TheVariants.{Map}
 use Rattle.formats.proofs.Stands.{number_stands, number_below}
 use Rattle.readers.specs.Reading.{read_file}
 use Rattle.readers.specs.declared.Head.{Head}
-use Rattle.readers.specs.declared.FileRead.TheVariants.{File}
 use Rattle.readers.proofs.Cases.{size_number}
 use Rattle.readers.proofs.Taken.{file_taken, taken_file, map_read}
 use Rattle.writers.specs.Parts.{records_of}
 use Rattle.writers.proofs.Accepted.{file_recorded, put_whole}
 use Rattle.files.specs.Canonical.{Canonical}
 use Rattle.files.proofs.Sound.{lists_read, sound_reading}
+use Rattle.std.specs.Prelude.{Ok}
 
 own_bytes :
     (kind : Kind) (s lent b : List ℕ) (head : Head) (t : ℕ) →
     Bytes s →
-    read_file kind s lent ≡ (File head t, b) →
+    read_file kind s lent ≡ (Ok (head, t), b) →
     file_bytes kind head.rows head.columns b t ≡ s
 unfolding file_bytes
 own_bytes kind s lent b head t bytes q =

@@ -13,14 +13,12 @@ use borrow.Author.Tests.{leb-true, le-leb, eqb-true, eqb-false, ne_eqb, ltb-fals
 use Rattle.array.specs.Place.{row, column, inner, processor}
 use Rattle.array.specs.Buffer.{positions_along}
 use Rattle.array.specs.Map.{dead_mark, faulty_mark, allowed}
-use Rattle.array.specs.declared.Verdict.TheVariants.{Accepted}
 use Rattle.array.proofs.Bools.{by_bool, and_true, and_both, or_false, cond_taken, cond_left}
 use Rattle.array.proofs.Places.{inner_stands}
 use Rattle.array.proofs.Marks.{healthy_else, dead_inner}
 use Rattle.array.proofs.Verdicts.{accepted_false}
 use Rattle.formats.specs.Number.{bytes_of}
 use Rattle.formats.specs.Records.{recorded, record_bytes, records_along, record_count}
-use Rattle.formats.specs.declared.Number.TheVariants.{Read}
 use Rattle.formats.specs.declared.Kind.{Kind}
 use Rattle.formats.specs.declared.Kind.TheVariants.{Map, Plan}
 use Rattle.formats.specs.declared.Record.{Record}
@@ -32,6 +30,7 @@ use Rattle.readers.proofs.Cases.{value_low}
 use Rattle.writers.specs.Parts.{value_bytes, records_of}
 use Rattle.writers.proofs.Accepted.{element_test}
 use Rattle.writers.proofs.Records.{record_is}
+use Rattle.std.specs.Prelude.{Ok}
 
 -- the file that has records of a kind
 abbrev pub file_of : Record → Kind
@@ -113,7 +112,7 @@ module _ (n m p v : ℕ) where
   path_stands : (not (inner n m p) && not (eqb v 0)) ≡ false → not (eqb v 0) ≡ true → inner n m p ≡ true
   path_stands h e = by_bool (inner n m p) (λ t. t) (λ t. absurd (true≢false (sym e ∙ (rw t at h))))
 
-  pub path_turned : element_test Plan n m p v ≡ Accepted → Turned Path n m p (blank_mark Plan n m p) v
+  pub path_turned : element_test Plan n m p v ≡ Ok tt → Turned Path n m p (blank_mark Plan n m p) v
   path_turned h =
       let o = or_false (ltb 4 v) (not (inner n m p) && not (eqb v 0)) (accepted_false _ 4 p 0 h) in
       by_bool (eqb v 0)
@@ -134,11 +133,11 @@ pub value_read :
     is_value kind v ≡ true →
     s ≡ front ++ (value_bytes kind v ++ rest) →
     at ≡ length front →
-    value_at kind s at ≡ Read v (at + length (value_bytes kind v))
+    value_at kind s at ≡ Ok (v, at + length (value_bytes kind v))
 value_read Fault s front rest v at t es ea =
-    ap (λ (z : ℕ). Read z at) (sym (eqb-true v 1 t)) ∙ ap (λ (z : ℕ). Read v z) (omega arith)
+    ap (λ (z : ℕ). Ok (z, at)) (sym (eqb-true v 1 t)) ∙ ap (λ (z : ℕ). Ok (v, z)) (omega arith)
 value_read Dead s front rest v at t es ea =
-    ap (λ (z : ℕ). Read z at) (sym (eqb-true v 3 t)) ∙ ap (λ (z : ℕ). Read v z) (omega arith)
+    ap (λ (z : ℕ). Ok (z, at)) (sym (eqb-true v 3 t)) ∙ ap (λ (z : ℕ). Ok (v, z)) (omega arith)
 value_read Path s front rest v at t es ea =
     let l : v ≤ 4 = value_low Path v t in
     read_at s front rest v at _ es ea refl (omega arith)

@@ -15,8 +15,7 @@ use Rattle.array.specs.Buffer.{buffer, positions_along}
 use Rattle.array.specs.Map.{dead_mark, allowed}
 use Rattle.array.specs.Tests.{refusal}
 use Rattle.array.specs.declared.Refusal.{Refusal}
-use Rattle.array.specs.declared.Verdict.{Verdict}
-use Rattle.array.specs.declared.Verdict.TheVariants.{Accepted, Refused}
+use Rattle.array.specs.Tests.{Verdict}
 use Rattle.array.proofs.Bools.{by_bool, by_eq, by_lt, and_both}
 use Rattle.array.proofs.Verdicts.{accepted_not}
 use Rattle.array.proofs.Scans.{scan_each, buffer_scan}
@@ -24,34 +23,28 @@ use Rattle.array.proofs.Fills.{tabulate_length, tabulate_at}
 use Rattle.array.proofs.Filters.{positions_short}
 use Rattle.formats.specs.Number.{number_at, bytes_of}
 use Rattle.formats.specs.Records.{recorded, record_bytes, records_along, record_count, list_bytes, first_list, rest_bytes, file_bytes, file_count, file_trials, blank}
-use Rattle.formats.specs.declared.Number.TheVariants.{Read}
 use Rattle.formats.specs.declared.Kind.{Kind}
 use Rattle.formats.specs.declared.Kind.TheVariants.{Map, Plan}
 use Rattle.formats.specs.declared.Record.{Record}
 use Rattle.formats.specs.declared.Record.TheVariants.{Fault, Dead, Path}
 use Rattle.formats.proofs.Cases.{ended}
 use Rattle.formats.proofs.Trip.{read_written, read_at}
-use Rattle.readers.specs.Reading.{record_at, records_at, trials_at, rest_at, read_file, read_plan, map_of}
+use Rattle.readers.specs.Reading.{record_at, records_at, trials_at, rest_at, read_file, read_plan, map_of, FileRead, Step}
 use Rattle.readers.specs.Parts.{repeated}
-use Rattle.readers.specs.declared.FileRead.{FileRead}
-use Rattle.readers.specs.declared.Step.{Step}
-use Rattle.readers.specs.declared.Step.TheVariants.{Next}
 use Rattle.readers.proofs.Cases.{blank_length, blank_at, record_marked, marked_in_order, in_order, more_suc, none_left, size_good, head_read, trials_cut, trials_some, whole_more}
 use Rattle.readers.proofs.Taken.{ListTaken, Ended, SecondTaken, RestTaken, FileTaken, taken_file}
-use Rattle.writers.specs.Writing.{buffer_test, trials_test, write_file}
+use Rattle.writers.specs.Writing.{buffer_test, trials_test, write_file, FileWritten}
 use Rattle.writers.specs.Parts.{value_bytes, records_of}
-use Rattle.writers.specs.declared.FileWritten.{FileWritten}
 use Rattle.writers.proofs.Accepted.{element_test, Passed, passed, trials_low, file_refused, file_accepted, file_recorded, put_short, put_whole}
 use Rattle.writers.proofs.Records.{dead_some}
 use Rattle.files.specs.RoundTrip.{RoundTrip}
 use Rattle.files.specs.Endings.{PlanEndings}
 use Rattle.files.proofs.Elements.{Read_in, Turned, alive, value_recorded, fault_turned, dead_turned, path_turned, value_read, along_some, along_none, count_some, count_none, same_records}
-use Rattle.readers.specs.declared.FileRead.TheVariants as read
-use Rattle.writers.specs.declared.FileWritten.TheVariants as written
+use Rattle.std.specs.Prelude.{Ok, Err}
 
 number_unchanged : (v : ℕ) (before after : List ℕ) → v < 2097152
-    → number_at (before ++ (bytes_of v ++ after)) (length before) ≡ Read v (length (before ++ bytes_of v))
-number_unchanged v before after h = read_written before v after h ∙ ap (λ (k : ℕ). Read v k) (sym (length-append before (bytes_of v)))
+    → number_at (before ++ (bytes_of v ++ after)) (length before) ≡ Ok (v, length (before ++ bytes_of v))
+number_unchanged v before after h = read_written before v after h ∙ ap (λ (k : ℕ). Ok (v, k)) (sym (length-append before (bytes_of v)))
 
 module _ (kind : Record) (n m : ℕ) where
   abbrev records : ℕ → List ℕ → List ℕ
@@ -104,25 +97,25 @@ module _ (kind : Record) (n m : ℕ) where
       free : repeated kind (get_or g (position (row p) (column p)) 0) ≡ false
       free = ap (repeated kind) found ∙ good.free
 
-      record_read : record_at kind s n m at before g ≡ (Next (length value_end) p, (done ++ (x ∷ [])) ++ ys)
+      record_read : record_at kind s n m at before g ≡ (Ok (length value_end, p), (done ++ (x ∷ [])) ++ ys)
       record_read =
           record_marked s n m at before g (row p) (length row_end) (read_at s front _ (row p) at (length row_end) es ea at_row (omega arith))
           (column p) (length column_end)
           (read_at s row_end _ (column p) (length row_end) (length column_end) after_row refl at_column (omega arith))
           small lg kind x (length value_end)
           (value_read kind s column_end rest x (length column_end) good.value after_column refl
-          ∙ ap (λ (k : ℕ). Read x k) (sym (length-append column_end (value_bytes kind x))))
+          ∙ ap (λ (k : ℕ). Ok (x, k)) (sym (length-append column_end (value_bytes kind x))))
           ∙ marked_in_order kind n m at before (row p) (column p) x (length value_end) g good.stands free good.value
           ∙ in_order at before (position (row p) (column p)) x (length value_end) g (omega (arith, here))
-          ∙ ap (λ (q : ℕ). (Next (length value_end) q, set g (position (row p) (column p)) x)) here
-          ∙ ap (λ (l : List ℕ). (Next (length value_end) p, l)) stored
+          ∙ ap (λ (q : ℕ). (Ok (length value_end, q), set g (position (row p) (column p)) x)) here
+          ∙ ap (λ (l : List ℕ). (Ok (length value_end, p), l)) stored
 
   -- The records of the elements xs from p on are read, from where they start to their end, into a buffer that is whole before
   -- p and has zs from there on, after a record that is no higher than p.
   module _ (small : (n ≤ 30) × (m ≤ 30)) (s rest whole : List ℕ) (end : ℕ) (el : end + length rest ≡ length s) where
     record Walked (k at before : ℕ) (g : List ℕ) : Type 0 where
       last : ℕ
-      read : records_at kind s n m k at before g ≡ (Next end last, whole)
+      read : records_at kind s n m k at before g ≡ (Ok (end, last), whole)
 
     walk :
         (zs xs front done : List ℕ) (p at before : ℕ) (g : List ℕ) →
@@ -141,7 +134,7 @@ module _ (kind : Record) (n m : ℕ) where
     walk (z ∷ zs) [] front done p at before g es ea eg er ed lg lz lb f = absurd (omega arith)
     walk [] [] front done p at before g es ea eg er ed lg lz lb f =
         let e : at ≡ end = omega (arith, el, ap length es, length-append front rest) in
-        record { last = before; read = none_left kind s n m at before g ∙ rw e (ap (λ (b : List ℕ). (Next end before, b)) (eg ∙ sym er)) }
+        record { last = before; read = none_left kind s n m at before g ∙ rw e (ap (λ (b : List ℕ). (Ok (end, before), b)) (eg ∙ sym er)) }
     walk (z ∷ zs) (x ∷ xs) front done p at before g es ea eg er ed lg lz lb f =
         let er' : whole ≡ (done ++ (x ∷ [])) ++ xs = er ∙ sym (append_snoc done x xs) in
         let ed' : length (done ++ (x ∷ [])) ≡ suc p = omega (arith, length-append done (x ∷ [])) in
@@ -229,16 +222,16 @@ module _ (kind : Kind) (n m : ℕ) (b rest : List ℕ) where
     unfolding record_count
     few r = let l : length b ≡ 1024 = p.is_long in omega (arith, positions_short (recorded r) b)
 
-    rows_read : number_at file 0 ≡ Read n (length (bytes_of n))
+    rows_read : number_at file 0 ≡ Ok (n, length (bytes_of n))
     rows_read =
         read_at file [] _ n 0 (length (bytes_of n)) refl refl (omega arith) (omega (arith, p.sizes.rows_high))
 
-    columns_read : number_at file (length (bytes_of n)) ≡ Read m (length (bytes_of n ++ bytes_of m))
+    columns_read : number_at file (length (bytes_of n)) ≡ Ok (m, length (bytes_of n ++ bytes_of m))
     columns_read =
         read_at file (bytes_of n) _ m _ _ refl refl (length-append (bytes_of n) (bytes_of m))
         (omega (arith, p.sizes.columns_high))
 
-    tally_read : number_at file (length (bytes_of n ++ bytes_of m)) ≡ Read (record_count first b) (length front)
+    tally_read : number_at file (length (bytes_of n ++ bytes_of m)) ≡ Ok (record_count first b, length front)
     tally_read =
         read_at file (bytes_of n ++ bytes_of m) _ (record_count first b) _ _ after_columns refl
         (length-append (bytes_of n ++ bytes_of m) tally) (few first)
@@ -252,7 +245,7 @@ module _ (kind : Kind) (n m : ℕ) (b rest : List ℕ) where
     small : (n ≤ 30) × (m ≤ 30)
     small = (p.sizes.rows_high, p.sizes.columns_high)
 
-    passes : (q : ℕ) → q < 1024 → element_test kind n m q (get_or b q 0) ≡ Accepted
+    passes : (q : ℕ) → q < 1024 → element_test kind n m q (get_or b q 0) ≡ Ok tt
     passes q l = scan_each (buffer_scan (element_test kind n m) b) p.scanned q (omega (arith, p.is_long))
 
     -- the file, from its lists: after the first the buffer is c
@@ -360,16 +353,16 @@ paths_read n m b rest p =
 -- T that stands after them is read
 trials_read :
     (n m t : ℕ) (b after : List ℕ) →
-    trials_test Plan t ≡ Accepted →
+    trials_test Plan t ≡ Ok tt →
     number_at (file Plan n m b (bytes_of t ++ after)) (length (listed Plan n m b (bytes_of t ++ after)))
-    ≡ Read t (length (listed Plan n m b (bytes_of t ++ after)) + length (bytes_of t))
+    ≡ Ok (t, length (listed Plan n m b (bytes_of t ++ after)) + length (bytes_of t))
 trials_read n m t b after h =
     read_at _ (listed Plan n m b (bytes_of t ++ after)) after t _ _ (after_list Plan n m b (bytes_of t ++ after)) refl refl (trials_low t h)
 
 -- The file of an accepted buffer is read as that buffer.
 file_is_taken :
     (kind : Kind) (n m : ℕ) (b : List ℕ) (t : ℕ) (p : Passed kind n m b) →
-    trials_test kind t ≡ Accepted →
+    trials_test kind t ≡ Ok tt →
     FileTaken kind (file_bytes kind n m b t) b (record { rows = n; columns = m; count = file_count kind b }) (file_trials kind t)
 unfolding file_bytes
 file_is_taken Map n m b t p h =
@@ -396,7 +389,7 @@ module _ (n m : ℕ) (b : List ℕ) (p : Passed Plan n m b) (lent : List ℕ) (w
       (rest : List ℕ) →
       read_plan (file Plan n m b rest) lent
       ≡ trials_at (file Plan n m b rest) (record { rows = n; columns = m; count = record_count Path b }) lent
-      (Next (length (listed Plan n m b rest)) (paths_read n m b rest p).last, b)
+      (Ok (length (listed Plan n m b rest), (paths_read n m b rest p).last), b)
   up_to_trials rest =
       let s : List ℕ = file Plan n m b rest in
       head_read Plan s lent w n _ (size_good s 0 n _ (rows_read Plan n m b rest p) (sizes Plan n m b rest p).0) m _
@@ -404,7 +397,7 @@ module _ (n m : ℕ) (b : List ℕ) (p : Passed Plan n m b) (lent : List ℕ) (w
       (tally_read Plan n m b rest p)
       ∙ ap (rest_at Plan s (record { rows = n; columns = m; count = record_count Path b }) lent) (paths_read n m b rest p).records_read
 
-  without_trials : read_plan (file Plan n m b []) lent ≡ (read.Refused (refusal 8 (length (file Plan n m b [])) 0), lent)
+  without_trials : read_plan (file Plan n m b []) lent ≡ (Err (refusal 8 (length (file Plan n m b [])) 0), lent)
   without_trials =
       let s : List ℕ = file Plan n m b [] in
       let end : ℕ = length (listed Plan n m b []) in
@@ -413,9 +406,9 @@ module _ (n m : ℕ) (b : List ℕ) (p : Passed Plan n m b) (lent : List ℕ) (w
 
   after_trials :
       (t x : ℕ) (xs : List ℕ) →
-      trials_test Plan t ≡ Accepted →
+      trials_test Plan t ≡ Ok tt →
       read_plan (file Plan n m b (bytes_of t ++ (x ∷ xs))) lent
-      ≡ (read.Refused (refusal 12 (length (listed Plan n m b []) + length (bytes_of t)) 0), lent)
+      ≡ (Err (refusal 12 (length (listed Plan n m b []) + length (bytes_of t)) 0), lent)
   after_trials t x xs h =
       let rest : List ℕ = bytes_of t ++ (x ∷ xs) in
       let s : List ℕ = file Plan n m b rest in
@@ -451,22 +444,22 @@ plan_endings =
           sym (ap length (after_list Plan n m b (bytes_of t)) ∙ length-append (listed Plan n m b []) (bytes_of t)) in
           ap (λ (s : List ℕ). read_plan s lent) e
           ∙ after_trials n m b (passed Plan n m b a) lent w t x xs c
-          ∙ ap (λ (z : ℕ). (read.Refused (refusal 12 z 0), lent)) k;
+          ∙ ap (λ (z : ℕ). (Err (refusal 12 z 0), lent)) k;
     }
 
 module _ (kind : Kind) (n m t : ℕ) where
   abbrev Unchanged : ℕ → List ℕ → List ℕ → List ℕ → Type 0
   Unchanged k b out lent =
       read_file kind (take k (write_file kind n m b t out).1) lent
-      ≡ (read.File (record { rows = n; columns = m; count = file_count kind b }) (file_trials kind t), b)
+      ≡ (Ok (record { rows = n; columns = m; count = file_count kind b }, file_trials kind t), b)
 
-  module _ (k : ℕ) (b out lent : List ℕ) (w : length lent ≡ 1024) (h : (write_file kind n m b t out).0 ≡ written.Length k) where
+  module _ (k : ℕ) (b out lent : List ℕ) (w : length lent ≡ 1024) (h : (write_file kind n m b t out).0 ≡ Ok k) where
     -- a writer that answers a length refuses nothing
-    no : {A : Type 0} {r : Refusal} {d : List ℕ} → write_file kind n m b t out ≡ (written.Refused r, d) → A
+    no : {A : Type 0} {r : Refusal} {d : List ℕ} → write_file kind n m b t out ≡ (Err r, d) → A
     no e = absurd (let z : ◌≡◌ {A = ℕ} 0 1 = cc (sym h ∙ ap (λ (x : FileWritten × List ℕ). x.0) e) in omega arith)
 
     -- What the writer accepts is the file, and the file buffer begins with it.
-    accepted : buffer_test kind n m b ≡ Accepted → trials_test kind t ≡ Accepted → Unchanged k b out lent
+    accepted : buffer_test kind n m b ≡ Ok tt → trials_test kind t ≡ Ok tt → Unchanged k b out lent
     accepted a c =
         let f : List ℕ = file_bytes kind n m b t in
         by_lt (length out) (length f)
@@ -477,20 +470,20 @@ module _ (kind : Kind) (n m t : ℕ) where
         ap (λ (s : List ℕ). read_file kind s lent) (rw (e, j) (take-append_seam f (drop (length f) out)))
         ∙ taken_file kind f b _ _ (file_is_taken kind n m b t (passed kind n m b a) c) lent w)
 
-    by_trials : buffer_test kind n m b ≡ Accepted → (v : Verdict) → trials_test kind t ≡ v → Unchanged k b out lent
-    by_trials a Accepted c = accepted a c
-    by_trials a (Refused r) c = no {r = r} {d = out} (file_accepted kind n m b t out a ∙ rw c refl)
+    by_trials : buffer_test kind n m b ≡ Ok tt → (v : Verdict) → trials_test kind t ≡ v → Unchanged k b out lent
+    by_trials a (Ok tt) c = accepted a c
+    by_trials a (Err r) c = no {r = r} {d = out} (file_accepted kind n m b t out a ∙ rw c refl)
 
     by_buffer : (v : Verdict) → buffer_test kind n m b ≡ v → Unchanged k b out lent
-    by_buffer Accepted a = by_trials a (trials_test kind t) refl
-    by_buffer (Refused r) a = no (file_refused kind n m b t out r a)
+    by_buffer (Ok tt) a = by_trials a (trials_test kind t) refl
+    by_buffer (Err r) a = no (file_refused kind n m b t out r a)
 
     file_unchanged : Unchanged k b out lent
     file_unchanged = by_buffer (buffer_test kind n m b) refl
 
-file_written : (kind : Kind) (n m t : ℕ) (b out : List ℕ) → buffer_test kind n m b ≡ Accepted → trials_test kind t ≡ Accepted
+file_written : (kind : Kind) (n m t : ℕ) (b out : List ℕ) → buffer_test kind n m b ≡ Ok tt → trials_test kind t ≡ Ok tt
     → length (file_bytes kind n m b t) ≤ length out
-    → (write_file kind n m b t out).0 ≡ written.Length (length (file_bytes kind n m b t))
+    → (write_file kind n m b t out).0 ≡ Ok (length (file_bytes kind n m b t))
 file_written kind n m t b out a c l =
     ap (λ (x : FileWritten × List ℕ). x.0) (file_recorded kind n m b t out a c ∙ put_whole (file_bytes kind n m b t) out l)
 

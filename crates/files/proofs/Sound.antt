@@ -14,18 +14,17 @@ use lib.Seq.{get_or-set_same, get_or-set_other}
 use borrow.Author.Tests.{eqb-true, le-ltb, eq-eqb}
 use Rattle.array.specs.Place.{row, column, processor, inner}
 use Rattle.array.specs.Map.{allowed}
-use Rattle.array.specs.declared.Verdict.TheVariants.{Accepted}
 use Rattle.array.proofs.Bools.{by_bool, by_eq, and_both, and_none}
 use Rattle.array.proofs.Places.{sized, inner_stands}
 use Rattle.array.proofs.Verdicts.{false_accepted, accept_both}
 use Rattle.array.proofs.Scans.{buffer_scan, scan_all}
 use Rattle.formats.specs.Number.{Bytes, bytes_of}
 use Rattle.formats.specs.Records.{recorded, record_bytes, records_along, record_count, first_list, rest_bytes, file_count, blank}
-use Rattle.formats.specs.declared.Number.TheVariants.{Read}
 use Rattle.formats.specs.declared.Kind.{Kind}
 use Rattle.formats.specs.declared.Kind.TheVariants.{Map, Plan}
 use Rattle.formats.specs.declared.Record.{Record}
 use Rattle.formats.specs.declared.Record.TheVariants.{Fault, Dead, Path}
+use Rattle.formats.proofs.Answers.{ok_parts}
 use Rattle.formats.proofs.Records.{position_only, no_records, records_set, Alike, count_is}
 use Rattle.formats.proofs.Stands.{number_stands, number_below}
 use Rattle.readers.specs.Parts.{blank_mark, stands_at, repeated, value_at, is_value}
@@ -38,9 +37,10 @@ use Rattle.writers.proofs.Accepted.{element_test, tests_are, low_trials}
 use Rattle.writers.proofs.Records.{record_is, dead_some}
 use Rattle.files.specs.Sound.{SoundReading}
 use Rattle.files.proofs.Elements.{file_of, blank_free, free_none, value_recorded, same_records}
+use Rattle.std.specs.Prelude.{Ok}
 
 -- an element that is blank, or that a record may write, passes its test
-blank_passes : (kind : Kind) (n m p : ℕ) → element_test kind n m p (blank_mark kind n m p) ≡ Accepted
+blank_passes : (kind : Kind) (n m p : ℕ) → element_test kind n m p (blank_mark kind n m p) ≡ Ok tt
 blank_passes Map n m p =
     let a : allowed n m p (blank_mark Map n m p) ≡ true =
     by_bool (inner n m p)
@@ -52,7 +52,7 @@ blank_passes Plan n m p =
 
 value_passes :
     (kind : Record) (n m p v : ℕ) → stands_at kind n m (row p) (column p) ≡ true → is_value kind v ≡ true
-    → element_test (file_of kind) n m p v ≡ Accepted
+    → element_test (file_of kind) n m p v ≡ Ok tt
 value_passes Fault n m p v s t =
     let e : v ≡ 1 = eqb-true v 1 t in
     let a : allowed n m p 1 ≡ true = by_bool (inner n m p) (λ u. rw u refl) (λ u. rw (u, s) refl) in
@@ -71,10 +71,10 @@ value_passes Path n m p v s t =
 value_stands :
     (kind : Record) (s : List ℕ) (at v next : ℕ) →
     Bytes s →
-    value_at kind s at ≡ Read v next →
+    value_at kind s at ≡ Ok (v, next) →
     drop at s ≡ value_bytes kind v ++ drop next s
-value_stands Fault s at v next bytes q = let e : at ≡ next = cc q in ap (λ (z : ℕ). drop z s) e
-value_stands Dead s at v next bytes q = let e : at ≡ next = cc q in ap (λ (z : ℕ). drop z s) e
+value_stands Fault s at v next bytes q = ap (λ (z : ℕ). drop z s) (ok_parts q).1
+value_stands Dead s at v next bytes q = ap (λ (z : ℕ). drop z s) (ok_parts q).1
 value_stands Path s at v next bytes q = number_stands s bytes at v next q
 
 -- records of two lists of one file: what the one writes, or finds free, has no record in the other
@@ -92,7 +92,7 @@ module _ (kind : Record) (s : List ℕ) (n m : ℕ) where
   -- a buffer whose elements pass, with k records, none of them above position `before`, which stand in the file from `start`
   -- to `at`
   pub record Held (start k at before : ℕ) (b : List ℕ) : Type 0 where
-    pub passes : (p : ℕ) → p < 1024 → element_test (file_of kind) n m p (get_or b p 0) ≡ Accepted
+    pub passes : (p : ℕ) → p < 1024 → element_test (file_of kind) n m p (get_or b p 0) ≡ Ok tt
     pub none_above : (p : ℕ) → before < p → p < 1024 → recorded kind p (get_or b p 0) ≡ false
     pub counted : record_count kind b ≡ k
     pub stands : Bytes s → records_of kind b ++ drop at s ≡ drop start s
@@ -101,7 +101,7 @@ module _ (kind : Record) (s : List ℕ) (n m : ℕ) where
   fresh_held :
       (start : ℕ) (b : List ℕ) →
       length b ≡ 1024 →
-      ((p : ℕ) → p < 1024 → element_test (file_of kind) n m p (get_or b p 0) ≡ Accepted) →
+      ((p : ℕ) → p < 1024 → element_test (file_of kind) n m p (get_or b p 0) ≡ Ok tt) →
       ((p : ℕ) → p < 1024 → recorded kind p (get_or b p 0) ≡ false) →
       Held start 0 start 0 b
   fresh_held start b w passes none =
@@ -214,12 +214,12 @@ blank_held kind s n m start =
 -- read
 pub record Lists (kind : Kind) (s : List ℕ) (n m start count end more t : ℕ) (b : List ℕ) : Type 0 where
   pub is_long : length b ≡ 1024
-  pub passes : (p : ℕ) → p < 1024 → element_test kind n m p (get_or b p 0) ≡ Accepted
+  pub passes : (p : ℕ) → p < 1024 → element_test kind n m p (get_or b p 0) ≡ Ok tt
   pub first_counted : record_count (first_list kind) b ≡ count
   pub dead_counted : dead_count kind b ≡ more
   pub first_stands : Bytes s → records_of (first_list kind) b ++ drop end s ≡ drop start s
   pub rest_stands : Bytes s → rest_bytes kind b t ≡ drop end s
-  pub trials_fit : Bytes s → trials_test kind t ≡ Accepted
+  pub trials_fit : Bytes s → trials_test kind t ≡ Ok tt
 
 module _ (s : List ℕ) (n m : ℕ) (small : (n ≤ 30) × (m ≤ 30)) (start count end more t : ℕ) (first b : List ℕ) where
   map_lists : ListTaken Fault s n m count start end (blank Map n m) first → RestTaken Map s n m end first b more t

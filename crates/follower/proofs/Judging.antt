@@ -1,109 +1,136 @@
--- The follower's answer from one node to the next, by the code's numbers.
+-- The follower's answer from one node to the next.
 -- Assumes nothing.
-use mathlib.Core.Path.{◌≡◌, refl, sym, ap, ◌∙◌}
-use mathlib.Core.Bool.{true, false, cond, true≢false}
-use mathlib.Core.List.{List}
-use mathlib.Core.Option.{Option, none, some}
-use Prim.Native.Nat.{ℕ, zero, suc, ◌+◌, ◌*◌, ◌≤◌}
+use Rattle.std.proofs.Common.{◌≡◌, refl, sym, ap, ◌∙◌, ℕ, suc, true, false, List}
+use Rattle.std.specs.Prelude.{Option, Some, None, Result, Ok, Err, ok_or}
 use native.Mathlib.Numerals.{add-one}
-use native.Mathlib.Omega.{arith}
-use borrow.Author.Tests.{eq-eqb, ne_eqb}
+use mathlib.Core.Bool.{true≢false}
+use borrow.Author.Tests.{eqb-true, eqb-false}
 use lib.Dec.{eqb}
-use Rattle.array.proofs.Bools.{by_eq}
-use Rattle.array.specs.Place.{position}
-use Rattle.array.specs.Map.{faulty}
-use Rattle.track.specs.Ports.{Wafer, E, S, ◌at◌, stretch_from}
-use Rattle.track.specs.Link.{Trail, passes, enters, unjoined_at, no_stretch, Inside, ends, on, stops, inside, run}
-use Rattle.track.specs.Follower.{position_of, port_number, by_side, refused, judged}
-use Rattle.track.specs.declared.Followed.{Followed}
-use Rattle.track.specs.declared.Followed.TheVariants.{Entered}
-use Rattle.follower.specs.declared.Port.{Port}
-use Rattle.follower.specs.declared.Step.{Step}
-use Rattle.follower.specs.declared.Step.TheVariants.{Done}
-use Rattle.follower.specs.Inner.{compass, node, port_of, SoundPort, fourth, Steps, passing, inside_as, entering, leaving}
-use Rattle.follower.proofs.Sides.{kinds, sides}
-use Rattle.track.specs.Ports as track
+use Rattle.array.proofs.Bools.{by_bool}
+use Rattle.array.specs.Tests.{Verdict, refuse}
+use Rattle.array.specs.declared.Refusal.{Refusal}
+use Rattle.track.specs.Ports.{Wafer, ◌at◌, stretch_from, ends_link, joined}
+use Rattle.track.specs.declared.ports.Compass.{Compass}
+use Rattle.track.specs.declared.ports.Node.{Node}
+use Rattle.track.specs.declared.ports.Port.{Port}
+use Rattle.track.specs.declared.Landing.{Landing}
+use Rattle.track.specs.Link.{Trail, passes, enters, unjoined_at, ends, on, stops, is_switch, inside, run}
+use Rattle.track.specs.Follower.{position_of, refused, judged}
+use Rattle.track.proofs.Follows.{run_nowhere, run_ending, run_passing, run_stopping, judged_switch, judged_fourth, judged_fault, unjoined_switch, unjoined_fourth, unjoined_fault}
+use Rattle.follower.specs.declared.Walk.{Walk}
+use Rattle.follower.specs.Inner.{SoundWalk, Enters, Advances, answer}
 
--- a trail by where its first stretch leads
-abbrev stretch_as : Wafer → ℕ → Option track.Port → Trail
-stretch_as w k v = elim v [ none ↦ no_stretch | some i ↦ entering w i k ]
-
-position_node : (x y k : ℕ) → k ≤ 2 → position_of (node k x y) ≡ position x y
-position_node x y = kinds (λ k. position_of (node k x y) ≡ position x y) refl refl refl
-
-number_compass : (s : ℕ) → s ≤ 3 → port_number (compass s) ≡ s
-number_compass = sides (λ s. port_number (compass s) ≡ s) refl refl refl refl
-
--- the port that a link leaves by
-pub out_side : (side : ℕ) → side ≤ 1 → compass (1 + 2 * side) ≡ by_side side E S
-out_side zero h = refl
-out_side (suc zero) h = refl
-out_side (suc (suc s)) h = absurd (omega arith)
-
--- a switch that is no fourth one may be counted
-pub not_fourth : (kind k : ℕ) → k ≤ 3 → (kind ≡ 0 → ⊥) → fourth kind k ≡ false → k + 1 ≤ 3
-not_fourth kind k l d h =
-    by_eq k 3
-    (λ e. let t : fourth kind k ≡ true = simp (ne_eqb kind 0 d, eq-eqb k 3 e) in absurd (true≢false (sym t ∙ h)))
-    (λ n. omega arith)
-
-module _ (g : List ℕ) (c k : ℕ) (p : Port) (h : SoundPort p) where
-  abbrev place : ℕ
-  place = position p.row p.column
-
-  pub judged_enters :
-      judged g c k (enters (port_of p))
-      ≡ cond (faulty g place) (refused 17 c) (Entered (record { position = place; port = p.side; switches = k }))
+module _ (w : Wafer) (o : Port) (c k : ℕ) where
+  -- from where the stretch leads
+  pub no_way : stretch_from w o ≡ None → (z : ℕ) → judged w.grid c k (run w (suc z) o) ≡ refused 17 c
   unfolding judged
-  judged_enters = rw (position_node p.row p.column p.kind h.kinds, number_compass p.side h.sides)
+  no_way h z = ap (judged w.grid c k) (run_nowhere w z o h)
 
-  pub judged_passes : (q : track.Port) (t : Trail)
-      → judged g c k (passes (port_of p) q t)
-      ≡ cond (fourth p.kind k) (refused 18 place) (cond (eqb p.kind 0) (judged g c k t) (judged g place (k + 1) t))
-  unfolding judged
-  judged_passes q t =
-      rw (add-one k)
-      (kinds
-      (λ z. judged g c k (passes (node z p.row p.column at compass p.side) q t)
-      ≡ cond (fourth z k) (refused 18 place) (cond (eqb z 0) (judged g c k t) (judged g place (suc k) t))) refl refl refl p.kind h.kinds)
+  module _ (i : Port) (h : stretch_from w o ≡ Some i) where
+    pub at_end : ends_link w i.node ≡ true → (z : ℕ) → judged w.grid c k (run w (suc z) o) ≡ judged w.grid c k (enters i)
+    unfolding inside
+    at_end e z = let f : inside w i ≡ ends = rw (e, inside) in ap (judged w.grid c k) (run_ending w z o i h f)
 
-  pub judged_unjoined :
-      judged g c k (unjoined_at (port_of p))
-      ≡ cond (fourth p.kind k) (refused 18 place) (cond (eqb p.kind 0) (refused 17 c) (refused 17 place))
-  unfolding judged
-  judged_unjoined =
-      kinds
-      (λ z. judged g c k (unjoined_at (node z p.row p.column at compass p.side))
-      ≡ cond (fourth z k) (refused 18 place) (cond (eqb z 0) (refused 17 c) (refused 17 place))) refl refl refl p.kind h.kinds
+    module _ (e : ends_link w i.node ≡ false) where
+      pub at_join : (s : Compass) → joined w i.node i.side ≡ Some s
+          → (z : ℕ) → judged w.grid c k (run w (suc z) o) ≡ judged w.grid c k (passes i (i.node at s) (run w z (i.node at s)))
+      unfolding inside
+      at_join s j z =
+          let f : inside w i ≡ on (i.node at s) = rw (e, inside, j) in
+          ap (judged w.grid c k) (run_passing w z o i (i.node at s) h f)
 
--- from what is inside the node entered
-module _ (w : Wafer) (i : track.Port) (c k : ℕ) where
-  judged_entering : (v : Inside) (z : ℕ) → v ≡ inside w i → judged w.grid c k (inside_as w i z v) ≡ judged w.grid c k (entering w i z)
-  judged_entering v z e = ap (λ (x : Inside). judged w.grid c k (inside_as w i z x)) e
+      pub at_stop : joined w i.node i.side ≡ None → (z : ℕ) → judged w.grid c k (run w (suc z) o) ≡ judged w.grid c k (unjoined_at i)
+      unfolding inside
+      at_stop j z = let f : inside w i ≡ stops = rw (e, inside, j) in ap (judged w.grid c k) (run_stopping w z o i h f)
 
-  pub at_end : {f : Followed} → ends ≡ inside w i → f ≡ judged w.grid c k (enters i) → Steps w c k (entering w i) (Done f)
-  at_end e h = record { is = λ z. h ∙ judged_entering ends z e; sound = tt }
+-- from what the walk makes of the node entered
+not_both : {x : Refusal} {A : Type 0} → ◌≡◌ {A = Verdict} (Err x) (Ok tt) → A
+not_both e = absurd (true≢false (cc))
 
-  pub at_join : {r : Step} (q : track.Port) → on q ≡ inside w i → Steps w c k (passing w i q) r → Steps w c k (entering w i) r
-  at_join q e h = record { is = λ z. h.is z ∙ judged_entering (on q) z e; sound = h.sound }
+same : {x y : Refusal} → ◌≡◌ {A = Verdict} (Err x) (Err y) → x ≡ y
+same e = cc
 
-  pub at_stop : {f : Followed} → stops ≡ inside w i → f ≡ judged w.grid c k (unjoined_at i) → Steps w c k (entering w i) (Done f)
-  at_stop e h = record { is = λ z. h ∙ judged_entering stops z e; sound = tt }
+module _ (g : List ℕ) {v v' : Walk} (i : Port) {r : Verdict} (n : Enters v i.node v' r) where
+  -- the refusal of a fourth switch
+  refused_here : is_switch i.node ≡ true → eqb v.passed 3 ≡ true → r ≡ refuse 18 (position_of i.node) 0
+  refused_here s f = rw (s, f) at n.refused
 
--- from where the stretch leads
-module _ (w : Wafer) (o : track.Port) (c k : ℕ) where
-  judged_leaving : (v : Option track.Port) (z : ℕ) → v ≡ stretch_from w o → judged w.grid c k (stretch_as w z v) ≡ judged w.grid c k (leaving w o z)
-  unfolding run
-  judged_leaving v z e = ap (λ (x : Option track.Port). judged w.grid c k (stretch_as w z x)) e
+  pub goes_on : r ≡ Ok tt → (q : Port) (t : Trail) → judged g v.last v.passed (passes i q t) ≡ judged g v'.last v'.passed t
+  goes_on e q t =
+      by_bool (is_switch i.node)
+      (λ s.
+      by_bool (eqb v.passed 3) (λ f. not_both (sym (refused_here s f) ∙ e))
+      (λ f.
+      let a = rw s at n.last e in
+      let b = rw s at n.passed e in
+      judged_switch g v.last v.passed i q t s (eqb-false v.passed 3 f) ∙ rw (a, b, add-one v.passed)))
+      (λ s.
+      let a = rw s at n.last e in
+      let b = rw s at n.passed e in
+      judged_fault g v.last v.passed i q t s ∙ rw (a, b))
 
-  pub no_way : {f : Followed} → none ≡ stretch_from w o → f ≡ refused 17 c → Steps w c k (leaving w o) (Done f)
-  unfolding judged
-  no_way e h = record { is = λ z. h ∙ judged_leaving none z e; sound = tt }
+  pub stops_here : r ≡ Ok tt → judged g v.last v.passed (unjoined_at i) ≡ refused 17 v'.last
+  stops_here e =
+      by_bool (is_switch i.node)
+      (λ s.
+      by_bool (eqb v.passed 3) (λ f. not_both (sym (refused_here s f) ∙ e))
+      (λ f.
+      let a = rw s at n.last e in
+      unjoined_switch g v.last v.passed i s (eqb-false v.passed 3 f) ∙ rw a))
+      (λ s.
+      let a = rw s at n.last e in
+      unjoined_fault g v.last v.passed i s ∙ rw a)
 
-  pub on_way : {r : Step} (i : track.Port) → some i ≡ stretch_from w o → Steps w c k (entering w i) r → Steps w c k (leaving w o) r
-  on_way i e h = record { is = λ z. h.is z ∙ judged_leaving (some i) z e; sound = h.sound }
+  module _ (x : Refusal) (e : r ≡ Err x) where
+    not_passed : is_switch i.node ≡ false → {A : Type 0} → A
+    not_passed s = let a = rw s at n.refused in not_both (sym e ∙ a)
+
+    pub fourth : (q : Port) (t : Trail) → judged g v.last v.passed (passes i q t) ≡ Err x
+    fourth q t =
+        by_bool (is_switch i.node)
+        (λ s.
+        by_bool (eqb v.passed 3)
+        (λ f. judged_fourth g v.last v.passed i q t s (eqb-true v.passed 3 f) ∙ ap Err (same (sym (refused_here s f) ∙ e)))
+        (λ f. let a = rw (s, f) at n.refused in not_both (sym e ∙ a)))
+        (λ s. not_passed s)
+
+    pub fourth_stops : judged g v.last v.passed (unjoined_at i) ≡ Err x
+    fourth_stops =
+        by_bool (is_switch i.node)
+        (λ s.
+        by_bool (eqb v.passed 3)
+        (λ f. unjoined_fourth g v.last v.passed i s (eqb-true v.passed 3 f) ∙ ap Err (same (sym (refused_here s f) ∙ e)))
+        (λ f. let a = rw (s, f) at n.refused in not_both (sym e ∙ a)))
+        (λ s. not_passed s)
+
+-- the same where it is not known what is joined there
+pub fourth_met : (w : Wafer) {v v' : Walk} (i : Port) {r : Verdict} → stretch_from w v.port ≡ Some i → ends_link w i.node ≡ false
+    → Enters v i.node v' r → (x : Refusal) → r ≡ Err x → (z : ℕ) → judged w.grid v.last v.passed (run w (suc z) v.port) ≡ Err x
+fourth_met w {v} i h e n x f z = by_side (joined w i.node i.side) refl
+  where
+    by_side : (s : Option Compass) → joined w i.node i.side ≡ s → judged w.grid v.last v.passed (run w (suc z) v.port) ≡ Err x
+    by_side None j = at_stop w v.port v.last v.passed i h e j z ∙ fourth_stops w.grid i n x f
+    by_side (Some s) j = at_join w v.port v.last v.passed i h e s j z ∙ fourth w.grid i n x f (i.node at s) (run w z (i.node at s))
+
+-- a walk that is refused
+pub refused_as : {w : Wafer} {v v' : Walk} {r : Result (Option Landing) Refusal} {x : Refusal} → r ≡ Err x
+    → ((z : ℕ) → judged w.grid v.last v.passed (run w (suc z) v.port) ≡ Err x) → SoundWalk v' → Advances w v v' r
+refused_as {w} {v} {v'} e h s = record { is = λ z. ap (answer w z v') e ∙ sym (h z); sound = s }
+
+-- the walk after a node entered
+pub still_sound : {v v' : Walk} {i : Node} {r : Verdict} → SoundWalk v → Enters v i v' r → SoundWalk v'
+still_sound s n = record { port = rw n.same s.port; few = n.few }
+
+-- what `ok_or` says of the value
+pub was_none : {A B : Type 0} (o : Option A) (e d : B) → ok_or o e ≡ Err d → (o ≡ None) × (d ≡ e)
+was_none None e d h = (refl, cc)
+was_none (Some x) e d h = absurd (true≢false (cc))
+
+pub was_some : {A B : Type 0} (o : Option A) (e : B) (x : A) → ok_or o e ≡ Ok x → o ≡ Some x
+was_some None e x h = absurd (true≢false (cc))
+was_some (Some y) e x h = cc
 
 -- no nodes left
-pub none_left : (w : Wafer) (g : List ℕ) (c k : ℕ) (o : track.Port) → judged g c k (run w 0 o) ≡ refused 0 0
+pub none_left : (w : Wafer) (g : List ℕ) (c k : ℕ) (o : Port) → judged g c k (run w 0 o) ≡ refused 0 0
 unfolding run judged
 none_left w g c k o = refl

@@ -1,2 +1,2 @@
-pub mod Sides
+pub mod Nodes
 pub mod Judging

@@ -1,163 +1,52 @@
--- What the inner parts of the follower promise each other: ports, stretches and joins by document 01's numbers, and a link followed
--- from node to node. Assumes nothing.
-use Rattle.std.specs.Prelude.{ℕ, suc, ◌+◌, ◌-◌, ◌/◌, ◌%◌, ◌≤◌, ◌≡◌, Bool, cond, not, ◌&&◌, List, ltb, eqb, length}
-use Rattle.std.proofs.Math.Option.{Option, none, some}
+-- What the inner parts of the follower promise each other: the wafer that they read, and a link followed from node to node.
+-- Assumes nothing.
+use Rattle.std.specs.Prelude.{ℕ, suc, ◌≤◌, ◌≡◌, ◌+◌, Bool, cond, ◌&&◌, eqb, get_or, Option, Some, None, Result, Ok, Err}
 use Rattle.array.specs.Place.{row, column}
+use Rattle.array.specs.Map.{dead, inner_fault}
+use Rattle.array.specs.Tests.{Verdict, refuse_if}
+use Rattle.array.specs.declared.Refusal.{Refusal}
 use Rattle.track.specs.Letters.{across_exists, down_exists, switch_byte}
-use Rattle.track.specs.Ports.{Wafer, Compass, W, E, N, S, Node, Processor, Across, Down, ◌at◌, W–E, N–S, across_joins, down_joins, fault_joins}
-use Rattle.track.specs.Link.{Trail, ends, on, stops, run}
-use Rattle.track.specs.Follower.{port_number, judged}
-use Rattle.track.specs.declared.Followed.{Followed}
-use Rattle.follower.specs.declared.Port.{Port}
-use Rattle.follower.specs.declared.Stretch.{Stretch}
-use Rattle.follower.specs.declared.Stretch.TheVariants.{To, Nothing}
-use Rattle.follower.specs.declared.Inside.{Inside}
-use Rattle.follower.specs.declared.Inside.TheVariants.{Ends, On, Stops}
+use Rattle.track.specs.Nodes.{InBuffers}
+use Rattle.track.specs.Ports.{Wafer, wafer, fault_joins}
+use Rattle.track.specs.declared.ports.Compass.{Compass}
+use Rattle.track.specs.declared.ports.Node.{Node}
+use Rattle.track.specs.Link.{is_switch, run}
+use Rattle.track.specs.Follower.{Followed, position_of, judged}
+use Rattle.track.specs.declared.Landing.{Landing}
 use Rattle.follower.specs.declared.Walk.{Walk}
-use Rattle.follower.specs.declared.Step.{Step}
-use Rattle.follower.specs.declared.Step.TheVariants.{Go, Done}
-use Rattle.track.specs.Ports as track
-use Rattle.track.specs.Link as link
+use Rattle.follower.specs.declared.wafer.Wafer as declared
 
--- sizes and buffers as after tests 1 and 2
-pub record Ready (n m : ℕ) (grid directions across down : List ℕ) : Type 0 where
-  pub rows : n ≤ 30
-  pub columns : m ≤ 30
-  pub grid_long : length grid ≡ 1024
-  pub directions_long : length directions ≡ 1024
-  pub across_long : length across ≡ 1024
-  pub down_long : length down ≡ 1024
+-- the wafer that the code's holds
+abbrev pub wafer_of : declared.Wafer → Wafer
+wafer_of w = wafer w.plan.map.shape.rows w.plan.map.shape.columns w.plan.map.grid.now w.plan.directions.now w.across.now w.down.now
 
--- the port of a number: 0 W, 1 E, 2 N, S for any other
-abbrev pub compass : ℕ → Compass
-compass side = cond (eqb side 0) W (cond (eqb side 1) E (cond (eqb side 2) N S))
-
--- kind 0 is a processor, 1 an across switch, any other a down switch
-abbrev pub node : ℕ → ℕ → ℕ → Node
-node kind x y = cond (eqb kind 0) (Processor x y) (cond (eqb kind 1) (Across x y) (Down x y))
-
-abbrev pub node_of : Port → Node
-node_of p = node p.kind p.row p.column
-
-abbrev pub port_of : Port → track.Port
-port_of p = node_of p at compass p.side
-
--- a kind and a side by document 01's numbers, at a row and a column of a buffer
-pub record SoundPort (p : Port) : Type 0 where
-  pub kinds : p.kind ≤ 2
-  pub rows : p.row ≤ 31
-  pub columns : p.column ≤ 31
-  pub sides : p.side ≤ 3
-
--- Stretches. The switch between two processors along the axis of a side: across for W and E, down for N and S.
-abbrev pub between : ℕ → ℕ
-between side = 1 + side / 2
-
--- W for E, N for S, and the other way round
-abbrev pub opposite : ℕ → ℕ
-opposite side = cond (eqb (side % 2) 0) (side + 1) (side - 1)
-
--- the kind of the node that a stretch leads to
-abbrev pub kind_beyond : ℕ → ℕ → ℕ
-kind_beyond kind side = cond (eqb kind 0) (between side) (cond (eqb kind (between side)) 0 kind)
-
--- its row or column along the axis, from i, and whether that would be one before 0
-abbrev pub beyond : ℕ → ℕ → ℕ → ℕ
-beyond kind side i = cond (eqb (side % 2) 0) (cond (eqb kind (between side)) i (i - 1)) (cond (eqb kind 0) i (i + 1))
-
-abbrev pub before_all : ℕ → ℕ → ℕ → Bool
-before_all kind side i = (eqb (side % 2) 0 && not (eqb kind (between side))) && eqb i 0
-
--- the row or the column: what a side's stretches change
-abbrev pub along : ℕ → ℕ → ℕ → ℕ
-along side x y = cond (ltb side 2) y x
-
-abbrev pub shown : Stretch → Option track.Port
-shown (To p) = some (port_of p)
-shown Nothing = none
-
-abbrev pub SoundStretch : Stretch → Type 0
-SoundStretch (To p) = SoundPort p
-SoundStretch Nothing = Unit {0}
-
--- one step beyond the last row or column too
-abbrev pub NearStretch : Stretch → Type 0
-NearStretch (To p) = (p.kind ≤ 2) × (p.row ≤ 32) × (p.column ≤ 32) × (p.side ≤ 3)
-NearStretch Nothing = Unit {0}
-
-pub record Neighbours (p : Port) (r : Stretch) : Type 0 where
-  pub is : shown r ≡ track.neighbour (node_of p) (compass p.side)
-  pub near : NearStretch r
-
-pub record Stretches (n m : ℕ) (p : Port) (r : Stretch) : Type 0 where
-  pub is : shown r ≡ track.if_stands n m (track.neighbour (node_of p) (compass p.side))
-  pub sound : SoundStretch r
-
--- Joins, by the port joined to
-abbrev pub joining : Option Compass → Inside
-joining none = Stops
-joining (some q) = On (port_number q)
-
--- straight on: W–E on axis 0, N–S on axis 1
-abbrev pub straight_joins : ℕ → Compass → Option Compass
-straight_joins axis = cond (eqb axis 0) W–E N–S
-
--- of both kinds of switch
-abbrev pub switch_joins : ℕ → ℕ → Compass → Option Compass
-switch_joins kind letter = cond (eqb kind 1) (across_joins letter) (down_joins letter)
-
--- of an inner fault, dead or not, and of any other processor
-abbrev pub processor_joins : Bool → Bool → ℕ → Compass → Inside
-processor_joins fault dead direction q = cond fault (cond dead Stops (joining (fault_joins direction q))) Ends
-
-abbrev pub seen : Node → Inside → link.Inside
-seen v Ends = ends
-seen v (On side) = on (v at compass side)
-seen v Stops = stops
-
-abbrev pub SoundInside : Inside → Type 0
-SoundInside Ends = Unit {0}
-SoundInside (On side) = side ≤ 3
-SoundInside Stops = Unit {0}
-
-pub record Finds (w : Wafer) (p : Port) (r : Inside) : Type 0 where
-  pub is : seen (node_of p) r ≡ link.inside w (port_of p)
-  pub sound : SoundInside r
-
--- the node entered is a fourth switch
-abbrev pub fourth : ℕ → ℕ → Bool
-fourth kind passed = not (eqb kind 0) && eqb passed 3
-
--- A link followed: v is where it goes on, or f the follower's answer. What the answer is, with k nodes more.
-abbrev pub answer : Wafer → ℕ → Step → Followed
-answer w k (Go v) = judged w.grid v.last v.passed (run w k (port_of v.port))
-answer w k (Done f) = f
+-- the port joined to a processor's, at its position
+abbrev pub joined_at : Wafer → ℕ → Compass → Option Compass
+joined_at w p s =
+    cond (dead w.grid p) None (cond (inner_fault w.rows w.columns w.grid p) (fault_joins (get_or w.directions p 0) s) None)
 
 pub record SoundWalk (v : Walk) : Type 0 where
-  pub port : SoundPort v.port
+  pub port : InBuffers v.port.node
   pub few : v.passed ≤ 3
 
-abbrev pub SoundStep : Step → Type 0
-SoundStep (Go v) = SoundWalk v
-SoundStep (Done f) = Unit {0}
+-- a switch entered is counted, and the link is there, but a fourth one is refused
+pub record Enters (v : Walk) (i : Node) (v' : Walk) (r : Verdict) : Type 0 where
+  pub same : v'.port ≡ v.port
+  pub refused : r ≡ cond (is_switch i) (refuse_if (eqb v.passed 3) 18 (position_of i) 0) (Ok tt)
+  pub last : r ≡ Ok tt → v'.last ≡ cond (is_switch i) (position_of i) v.last
+  pub passed : r ≡ Ok tt → v'.passed ≡ cond (is_switch i) (v.passed + 1) v.passed
+  pub few : v'.passed ≤ 3
 
--- the step r goes on as t, the trail from some node on, does
-pub record Steps (w : Wafer) (last passed : ℕ) (t : ℕ → Trail) (r : Step) : Type 0 where
-  pub is : (k : ℕ) → answer w k r ≡ judged w.grid last passed (t k)
-  pub sound : SoundStep r
+-- What one node more makes of a link: it goes on, it arrives, or it is refused. The follower's answer where k more may be entered.
+abbrev pub answer : Wafer → ℕ → Walk → Result (Option Landing) Refusal → Followed
+answer w k v (Ok None) = judged w.grid v.last v.passed (run w k v.port)
+answer w k v (Ok (Some l)) = Ok l
+answer w k v (Err r) = Err r
 
--- a trail that goes on by the port q, and one from the node entered at i on
-abbrev pub passing : Wafer → track.Port → track.Port → ℕ → Trail
-passing w i q k = link.passes i q (run w k q)
-
-abbrev pub inside_as : Wafer → track.Port → ℕ → link.Inside → Trail
-inside_as w i k v = elim v [ ends ↦ link.enters i | on q ↦ passing w i q k | stops ↦ link.unjoined_at i ]
-
-abbrev pub entering : Wafer → track.Port → ℕ → Trail
-entering w i k = inside_as w i k (link.inside w i)
-
-abbrev pub leaving : Wafer → track.Port → ℕ → Trail
-leaving w o k = run w (suc k) o
+-- from the walk v to the walk v', by one node
+pub record Advances (w : Wafer) (v v' : Walk) (r : Result (Option Landing) Refusal) : Type 0 where
+  pub is : (k : ℕ) → answer w k v' r ≡ judged w.grid v.last v.passed (run w (suc k) v.port)
+  pub sound : SoundWalk v'
 
 -- 16 at p: both bytes are what the position allows
 abbrev pub switches_allowed : ℕ → ℕ → ℕ → ℕ → ℕ → Bool

@@ -8,8 +8,8 @@ use lib.ListN.{length, get_or}
 use borrow.Author.Tests.{le-leb, lt-leb, lt-ltb, le-ltb, eq-eqb, ne_eqb}
 use Rattle.array.proofs.Bools.{by_lt}
 use Rattle.formats.specs.Number.{refused, groups_limit, with_low, groups_at, groups_of, bytes_of}
-use Rattle.formats.specs.declared.Number.{Number}
-use Rattle.formats.specs.declared.Number.TheVariants.{Read, Refused}
+use Rattle.formats.specs.Number.{Number}
+use Rattle.std.specs.Prelude.{Ok, Err}
 use Rattle.array.specs.declared.Refusal.{Refusal}
 
 module _ (s : List ℕ) (start : ℕ) where
@@ -22,7 +22,7 @@ module _ (s : List ℕ) (start : ℕ) where
     unfolding groups_at
     ended h = rw (le-leb _ _ h)
 
-    pub last_group : at < length s → get_or s at 0 < 128 → groups_at s start (suc k) at ≡ Read (get_or s at 0) (at + 1)
+    pub last_group : at < length s → get_or s at 0 < 128 → groups_at s start (suc k) at ≡ Ok (get_or s at 0, at + 1)
     unfolding groups_at
     last_group h l = rw (lt-leb _ _ h, lt-ltb _ _ l)
 
@@ -46,14 +46,14 @@ two_groups_high (suc (suc (suc k))) h = absurd (omega arith)
 
 -- a low group before what follows it
 module _ (start low : ℕ) {x : Number} where
-  pub rest_refused : (r : Refusal) → x ≡ Refused r → with_low start low x ≡ Refused r
+  pub rest_refused : (r : Refusal) → x ≡ Err r → with_low start low x ≡ Err r
   rest_refused r e = rw e
 
-  module _ (v next : ℕ) (e : x ≡ Read v next) where
+  module _ (v next : ℕ) (e : x ≡ Ok (v, next)) where
     pub rest_zero : v ≡ 0 → with_low start low x ≡ refused 9 start
     rest_zero z = rw (e, eq-eqb v 0 z)
 
-    pub rest_read : (v ≡ 0 → ⊥) → with_low start low x ≡ Read (low + 128 * v) next
+    pub rest_read : (v ≡ 0 → ⊥) → with_low start low x ≡ Ok (low + 128 * v, next)
     rest_read z = rw (e, ne_eqb v 0 z)
 
 -- the bytes of a number

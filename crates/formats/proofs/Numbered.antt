@@ -9,12 +9,12 @@ use Rattle.array.specs.Tests.{Told, refuses_as}
 use Rattle.array.specs.declared.Refusal.{Refusal}
 use Rattle.array.proofs.Numbered.{NumberedAs, numbered_cond, numbers}
 use Rattle.formats.specs.Number.{told, with_low, groups_at, number_at, read_or, size_at}
-use Rattle.formats.specs.declared.Number.{Number}
-use Rattle.formats.specs.declared.Number.TheVariants.{Read, Refused}
+use Rattle.formats.specs.Number.{Number}
+use Rattle.std.specs.Prelude.{Ok, Err}
 
 numbered_low : (start low : ℕ) (a : Number) → NumberedAs told a → NumberedAs told (with_low start low a)
-numbered_low start low (Read v next) h = search numbers
-numbered_low start low (Refused r) h = h
+numbered_low start low (Ok (v, next)) h = search numbers
+numbered_low start low (Err r) h = h
 
 groups_numbered : (s : List ℕ) (start k at : ℕ) → NumberedAs told (groups_at s start k at)
 unfolding groups_at
@@ -31,8 +31,8 @@ number_numbered s at = groups_numbered s at 3 at
 pub numbered_read : {A : Type 0} {tell : A → Told} (a : Number) {f : ℕ → ℕ → A} {g : Refusal → A} → NumberedAs told a
     → ((v next : ℕ) → NumberedAs tell (f v next)) → ((r : Refusal) → tell (g r) ≡ refuses_as r)
     → NumberedAs tell (read_or a f g)
-numbered_read (Read v next) h x y = x v next
-numbered_read (Refused r) h x y = record { numbered = rw (y r) h.numbered }
+numbered_read (Ok (v, next)) h x y = x v next
+numbered_read (Err r) h x y = record { numbered = rw (y r) h.numbered }
 
 pub size_at_numbered : (s : List ℕ) (at : ℕ) → NumberedAs told (size_at s at)
 unfolding size_at

@@ -8,13 +8,13 @@ use lib.ListN.{length, get_or, length-append}
 use lib.Seq.{get_or-append_seam, append_snoc}
 use Rattle.array.proofs.Bools.{by_lt}
 use Rattle.formats.specs.Number.{groups_limit, groups_at, number_at, groups_of, bytes_of}
-use Rattle.formats.specs.declared.Number.TheVariants.{Read}
+use Rattle.std.specs.Prelude.{Ok}
 use Rattle.formats.proofs.Cases.{last_group, low_group, rest_read, group_one, group_more}
 
 -- the same for the groups of a number that begins at `start`
 module _ (q : List ℕ) (start : ℕ) where
   abbrev Trip : ℕ → List ℕ → ℕ → Type 0
-  Trip k p v = groups_at (p ++ (groups_of k v ++ q)) start k (length p) ≡ Read v (length p + length (groups_of k v))
+  Trip k p v = groups_at (p ++ (groups_of k v ++ q)) start k (length p) ≡ Ok (v, length p + length (groups_of k v))
 
   module _ (k : ℕ) (p : List ℕ) (v : ℕ) where
     one : v < 128 → Trip (suc k) p v
@@ -34,14 +34,14 @@ module _ (q : List ℕ) (start : ℕ) where
         let s : List ℕ = p ++ low ∷ (rest ++ q) in
         let e : get_or s (length p) 0 ≡ low = get_or-append_seam p low (rest ++ q) 0 in
         let f : length (p ++ (low ∷ [])) ≡ length p + 1 = length-append p (low ∷ []) in
-        let g : groups_at s start k (length p + 1) ≡ Read (v / 128) (length p + 1 + length rest) =
+        let g : groups_at s start k (length p + 1) ≡ Ok (v / 128, length p + 1 + length rest) =
         rw (append_snoc p low (rest ++ q), f) at h in
         let i : length p + 1 + length rest ≡ length p + length (low ∷ rest) = omega arith in
         rw (group_more k v l)
         (low_group s start k (length p) (omega (arith, length-append p (low ∷ (rest ++ q)))) (omega arith)
         ∙ rest_read start (get_or s (length p) 0 - 128) (v / 128) _ g (λ z. omega arith)
-        ∙ ap (λ (w : ℕ). Read w (length p + 1 + length rest)) (omega arith)
-        ∙ ap (λ (w : ℕ). Read v w) i)
+        ∙ ap (λ (w : ℕ). Ok (w, length p + 1 + length rest)) (omega arith)
+        ∙ ap (λ (w : ℕ). Ok (v, w)) i)
 
   groups_read : (k : ℕ) (p : List ℕ) (v : ℕ) → v < groups_limit (suc k) → Trip (suc k) p v
   groups_read zero p v h = one 0 p v (omega arith)
@@ -52,7 +52,7 @@ module _ (q : List ℕ) (start : ℕ) where
 pub read_written :
     (p : List ℕ) (v : ℕ) (q : List ℕ) →
     v < 2097152 →
-    number_at (p ++ (bytes_of v ++ q)) (length p) ≡ Read v (length p + length (bytes_of v))
+    number_at (p ++ (bytes_of v ++ q)) (length p) ≡ Ok (v, length p + length (bytes_of v))
 unfolding bytes_of
 read_written p v q h = groups_read q (length p) 2 p v h
 
@@ -63,5 +63,5 @@ pub read_at :
     at ≡ length p →
     next ≡ at + length (bytes_of v) →
     v < 2097152 →
-    number_at s at ≡ Read v next
+    number_at s at ≡ Ok (v, next)
 read_at s p q v at next es ea en h = rw (es, en, ea) (read_written p v q h)

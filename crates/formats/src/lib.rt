@@ -2,24 +2,30 @@
 #![tactic(auto)]
 
 ghost use Rattle.std.specs.Prelude.{◌≡◌, ℕ, ◌<◌, ◌≤◌, length};
-ghost use Rattle.formats.specs.Number.{told, refused, groups_limit, Below, groups_at, number_at, bytes_of, refusal_of};
+ghost use Rattle.array.specs.Tests.{refusal};
+ghost use Rattle.formats.specs.Number.{told, groups_limit, Below, groups_at, number_at, bytes_of};
 ghost use Rattle.formats.specs.Parts.{Room, Wrote};
 ghost use Rattle.formats.specs.Records.{recorded, first_list};
 
-use array::Refusal;
-
-// What reading a number answers: its value with the offset behind it, or the refusal.
-#[derive(Clone, Copy)]
-pub enum Number {
-    Read(u32, usize),
-    Refused(Refusal),
-}
+use array::{Reason, Refusal};
 
 // A map file or a plan file.
 #[derive(Clone, Copy)]
 pub enum Kind {
     Map,
     Plan,
+}
+
+impl Kind {
+    // Inner part: the records of a file's first list.
+    pub fn first_list(self) -> Record
+        ensures { result ≡ first_list self }
+    {
+        match self {
+            Kind::Map => Record::Fault,
+            Kind::Plan => Record::Path,
+        }
+    }
 }
 
 // The kinds of record: a fault that is not dead, a dead processor (T-04), or a path.
@@ -30,77 +36,55 @@ pub enum Record {
     Path,
 }
 
-// The byte as a number of 32 bits.
-fn wide(b: u8) -> u32
-    ensures { (result ≡ b) × (result < 256) }
-{
-    b as u32
-}
-
-// Inner part: the refusal of a number.
-fn refused(number: u8, place: usize) -> Number
-    ensures { result ≡ refused number place }
-{
-    Number::Refused(Refusal {
-        number,
-        place,
-        second: 0,
-    })
+impl Record {
+    // Inner part: whether an element of a buffer has a record of this kind.
+    pub fn is_recorded(self, v: u8) -> bool
+        ensures { (p : ℕ) → result ≡ recorded self p v }
+    {
+        match self {
+            Record::Fault => v == 1,
+            Record::Dead => array::is_dead(v),
+            Record::Path => v != 0,
+        }
+    }
 }
 
 // Inner part: at most so many groups from an offset on, of a number that begins at `start`.
-fn read_groups(s: &[u8], start: usize, groups: usize, at: usize) -> Number
+fn read_groups(s: &[u8], start: usize, groups: usize, at: usize) -> Result<(u32, usize), Refusal>
     requires { groups ≤ 3 }
-    ensures { (told result ≡ told (groups_at s.now start groups at)) × Below (groups_limit groups) result }
+    ensures { (result ≡ groups_at s.now start groups at) × Below (groups_limit groups) result }
 {
     if groups == 0 {
-        return refused(9, start);
+        return Err(Refusal::at(Reason::NumberForm, start));
     }
     if s.len() <= at {
-        return refused(8, s.len());
+        return Err(Refusal::at(Reason::FileEnds, s.len()));
     }
-    let low = s[at];
+    let low = u32::from(s[at]);
     if low < 128 {
-        return Number::Read(wide(low), at + 1);
+        return Ok((low, at + 1));
     }
-    let a = read_groups(s, start, groups - 1, at + 1);
-    let Number::Read(rest, next) = a else {
-        return a;
-    };
+    let (rest, next) = read_groups(s, start, groups - 1, at + 1)?;
     if rest == 0 {
-        return refused(9, start);
+        return Err(Refusal::at(Reason::NumberForm, start));
     }
-    Number::Read(wide(low) - 128 + 128 * rest, next)
+    Ok((low - 128 + 128 * rest, next))
 }
 
 // The number that starts at an offset of a file, with the offset after it, or its refusal. Most numbers have one byte, so
 // that this case comes first.
-pub fn read_number(s: &[u8], at: usize) -> Number
+pub fn read_number(s: &[u8], at: usize) -> Result<(u32, usize), Refusal>
     ensures { told result ≡ told (number_at s.now at) }
 {
     if s.len() <= at {
-        return refused(8, s.len());
+        return Err(Refusal::at(Reason::FileEnds, s.len()));
     }
     let first = s[at];
     let next = at + 1;
     if first < 128 {
-        return Number::Read(wide(first), next);
+        return Ok((u32::from(first), next));
     }
     read_groups(s, at, 3, at)
-}
-
-// Inner part: the refusal of a number that is not read.
-pub fn refusal_of(a: Number) -> Refusal
-    ensures { result ≡ refusal_of a }
-{
-    match a {
-        Number::Read(_, _) => Refusal {
-            number: 0,
-            place: 0,
-            second: 0,
-        },
-        Number::Refused(e) => e,
-    }
 }
 
 // Inner part: writes the bytes of a number at an offset and gives the offset after them.
@@ -113,7 +97,7 @@ pub fn write_number(out: &mut [u8], start: usize, v: usize) -> usize
     while 128 <= rest {
         out[at] = (128 + rest % 128) as u8;
         at += 1;
-        rest = rest / 128;
+        rest /= 128;
     }
     out[at] = rest as u8;
     at + 1
@@ -130,25 +114,4 @@ pub fn number_length(v: usize) -> usize
         return 2;
     }
     3
-}
-
-// Inner part: whether an element of a buffer has a record of a kind.
-pub fn is_recorded(kind: Record, v: u8) -> bool
-    ensures { (p : ℕ) → result ≡ recorded kind p v }
-{
-    match kind {
-        Record::Fault => v == 1,
-        Record::Dead => array::is_dead(v),
-        Record::Path => !(v == 0),
-    }
-}
-
-// Inner part: the records of a file's first list.
-pub fn first_list(kind: Kind) -> Record
-    ensures { result ≡ first_list kind }
-{
-    match kind {
-        Kind::Map => Record::Fault,
-        Kind::Plan => Record::Path,
-    }
 }

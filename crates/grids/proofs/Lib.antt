@@ -2,8 +2,8 @@ pub mod Texts
 pub mod Within
 pub mod Marks
 pub mod Lines
-pub mod Rows
-pub mod Judging
+pub mod RowLaws
+pub mod Judgements
 pub mod Sound
 pub mod Examples
 pub mod TextLines

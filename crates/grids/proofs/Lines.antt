@@ -1,57 +1,45 @@
 -- The lines of a text: where the next line ends, what is left after it, and how its end is trimmed.
 -- Assumes nothing.
-use Prim.Native.Nat.{ℕ, zero, suc, ◌+◌, ◌-◌, ◌<◌, ◌≤◌}
-use mathlib.Core.Path.{◌≡◌, refl, sym, ap, ◌∙◌}
-use mathlib.Core.Bool.{true, false}
+use Prim.Native.Nat.{ℕ, suc, ◌+◌, ◌≤◌}
+use mathlib.Core.Path.{◌≡◌, refl}
+use mathlib.Core.Bool.{true, false, cond}
 use mathlib.Core.List.{List, [], ◌∷◌, ◌++◌}
-use native.Mathlib.Numerals.{add-one}
+use native.Mathlib.Numerals.{add-one, one-add}
 use native.Mathlib.Omega.{arith}
-use native.Mathlib.Nat.{zero-add, suc-add}
-use lib.Dec.{eqb}
-use lib.ListN.{length, get_or, set, take, drop, drop_of_length-le}
-use lib.Seq.{slice, sets, slice-cons, slice_empty, drop-cons, drop-drop, take-nil, take-suc, length-take-le, drop-append-le}
-use Rattle.array.proofs.Bools.{by_bool}
+use lib.Dec.{eqb, ltb}
+use lib.ListN.{length, take, drop}
+use Rattle.std.specs.Prelude.{Option, None, Some, unwrap_or}
+use borrow.Author.Tests.{lt-ltb, le-ltb}
+use Rattle.array.proofs.Bools.{by_bool, by_lt}
 use Rattle.grids.specs.Parts.{line_length}
 use Rattle.grids.specs.Reading.{lines_of, trim, blank_letter}
 
 -- the first line, and the lines after its line feed
 cut : (c : ℕ) (t : List ℕ) → lines_of (c ∷ t) ≡ take (line_length (c ∷ t)) (c ∷ t) ∷ lines_of (drop (suc (line_length (c ∷ t))) (c ∷ t))
-unfolding lines_of line_length
-cut c [] = by_bool (eqb c 10) (λ t. rw t) (λ t. rw t)
-cut c (d ∷ t) = by_bool (eqb c 10) (λ e. rw e) (λ e. rw (e, cut d t))
-
--- a slice starts where the rest of the list does
-pub slice_is : (s : List ℕ) (i j : ℕ) → slice i (i + j) s ≡ take j (drop i s)
-slice_is s zero j = rw zero-add
-slice_is [] (suc i) j = rw (suc-add, take-nil) refl
-slice_is (x ∷ s) (suc i) j = rw suc-add (slice_is s i j)
-
-module _ (s : List ℕ) (i : ℕ) where
-  -- the length of the line at i, by its next character
-  pub line_on : i < length s → eqb (get_or s i 0) 10 ≡ false → line_length (drop i s) ≡ suc (line_length (drop (i + 1) s))
-  unfolding line_length
-  line_on h e = rw (drop-cons s i 0 h, e, add-one i)
-
-  pub line_stops : i < length s → eqb (get_or s i 0) 10 ≡ true → line_length (drop i s) ≡ 0
-  unfolding line_length
-  line_stops h e = rw (drop-cons s i 0 h, e)
-
-  pub line_ends : length s ≤ i → line_length (drop i s) ≡ 0
-  unfolding line_length
-  line_ends h = rw (drop_of_length-le s h)
-
-  -- the lines from i on
-  pub lines_cut : {stop : ℕ} → i < length s → stop ≡ i + line_length (drop i s) → lines_of (drop i s) ≡ slice i stop s ∷ lines_of (drop (stop + 1) s)
-  lines_cut {stop} h e =
-      let c = get_or s i 0 in
-      let t = drop (suc i) s in
-      let k = line_length (c ∷ t) in
-      rw (e, add-one, slice_is, drop-cons s i 0 h)
-      (cut c t ∙ ap (λ (l : List ℕ). take k (c ∷ t) ∷ lines_of l) (drop-drop k (suc i) s ∙ ap (λ (j : ℕ). drop j s) (suc-add i k)))
-
-pub no_lines : (s : List ℕ) (i : ℕ) → length s ≤ i → lines_of (drop i s) ≡ []
 unfolding lines_of
-no_lines s i h = rw (drop_of_length-le s h)
+cut c [] = by_bool (eqb c 10) (λ t. rw t) (λ t. rw t)
+cut c (d ∷ t) = by_bool (eqb c 10) (λ e. rw e) (λ e. rw (e, cut d t, one-add (line_length (d ∷ t))))
+
+pub line_within : (s : List ℕ) → line_length s ≤ length s
+line_within [] = omega arith
+line_within (c ∷ s) =
+    by_bool (eqb c 10) (λ e. rw e (omega arith)) (λ e. let h = line_within s in rw e (omega arith))
+
+-- the first line of a text that has one, and the lines after it
+pub lines_cut : (s : List ℕ) → (length s ≡ 0 → ⊥) → lines_of s ≡ take (line_length s) s ∷ lines_of (drop (line_length s + 1) s)
+lines_cut [] h = absurd (h refl)
+lines_cut (c ∷ t) h = rw add-one (cut c t)
+
+-- a text without a line feed is one line
+unwrapped : (k n : ℕ) → k ≤ n → unwrap_or (cond (ltb k n) (Some k) None) n ≡ k
+unwrapped k n h =
+    by_lt k n (λ l. let t = lt-ltb k n l in rw t refl) (λ l. let t = le-ltb k n l in let e : n ≡ k = omega arith in rw t e)
+
+pub first_feed :
+    (s : List ℕ) (r : Option ℕ) →
+    r ≡ cond (ltb (line_length s) (length s)) (Some (line_length s)) None →
+    unwrap_or r (length s) ≡ line_length s
+first_feed s r e = rw e (unwrapped (line_length s) (length s) (line_within s))
 
 -- the last character is trimmed, or nothing is
 pub trim_last : (l : List ℕ) (b : ℕ) → blank_letter b ≡ true → trim (l ++ (b ∷ [])) ≡ trim l
@@ -65,35 +53,7 @@ trim_kept [] b h = rw h
 trim_kept (c ∷ []) b h = rw h
 trim_kept (c ∷ d ∷ l) b h = rw (trim_kept (d ∷ l) b h)
 
--- a slice of one character more
-slice_snoc : (s : List ℕ) (i j : ℕ) → i ≤ j → j < length s → slice i (suc j) s ≡ slice i j s ++ (get_or s j 0 ∷ [])
-slice_snoc s i j h l =
-    let e = length-take-le j s (omega arith) in
-    rw (take-suc s j 0 l) (drop-append-le i (take j s) (get_or s j 0 ∷ []) (omega arith))
-
-module _ (s : List ℕ) (i j : ℕ) (h : i < j) (l : j ≤ length s) where
-  last : slice i j s ≡ slice i (j - 1) s ++ (get_or s (j - 1) 0 ∷ [])
-  last = let e : j ≡ suc (j - 1) = omega arith in ap (λ (k : ℕ). slice i k s) e ∙ slice_snoc s i (j - 1) (omega arith) (omega arith)
-
-  pub trims_one : blank_letter (get_or s (j - 1) 0) ≡ true → trim (slice i j s) ≡ trim (slice i (j - 1) s)
-  trims_one b = ap trim last ∙ trim_last (slice i (j - 1) s) (get_or s (j - 1) 0) b
-
-  pub trims_none : blank_letter (get_or s (j - 1) 0) ≡ false → slice i j s ≡ trim (slice i j s)
-  trims_none b = last ∙ sym (trim_kept (slice i (j - 1) s) (get_or s (j - 1) 0) b) ∙ ap trim (sym last)
-
-pub no_slice : (s : List ℕ) (i j : ℕ) → i ≡ j → slice i j s ≡ []
-no_slice s i j e = rw e (slice_empty j s)
-
-pub trims_nothing : (s : List ℕ) (i j : ℕ) → i ≡ j → slice i j s ≡ trim (slice i j s)
+pub trim_nothing : (l : List ℕ) → length l ≡ 0 → l ≡ trim l
 unfolding trim
-trims_nothing s i j e = rw (no_slice s i j e)
-
--- the first character of a slice is stored, then the others
-pub store_next :
-    (s cells : List ℕ) (k next i j end : ℕ) →
-    next ≡ suc k →
-    j ≡ suc i →
-    i < end →
-    end ≤ length s →
-    sets (set cells k (get_or s i 0)) next (slice j end s) ≡ sets cells k (slice i end s)
-store_next s cells k next i j end e f h l = rw (e, f, slice-cons i end s 0 h l)
+trim_nothing [] h = refl
+trim_nothing (c ∷ l) h = absurd (omega arith)

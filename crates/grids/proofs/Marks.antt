@@ -1,5 +1,6 @@
 -- What marks a position allows, and that the grid of a text's characters is a well-formed map.
 -- Assumes nothing.
+use Rattle.std.specs.Prelude.{Ok}
 use Prim.Native.Nat.{ℕ, ◌<◌, ◌≤◌}
 use mathlib.Core.Path.{◌≡◌, sym, ◌∙◌}
 use mathlib.Core.Bool.{Bool, true, false, cond, ◌||◌, false≢true}
@@ -10,7 +11,6 @@ use lib.Dec.{leb, eqb}
 use lib.ListN.{length, get_or}
 use Rattle.array.specs.Place.{row, column, inner_at, processor_at, inner, processor}
 use Rattle.array.specs.Map.{dead_mark, allowed, mark_test, map_tests, well_formed}
-use Rattle.array.specs.declared.Verdict.TheVariants.{Accepted}
 use Rattle.array.proofs.Bools.{by_bool}
 use Rattle.array.proofs.Places.{inner_stands}
 use Rattle.array.proofs.Fills.{tabulate_length, tabulate_at}
@@ -52,10 +52,10 @@ module _ (n m : ℕ) (cells : List ℕ) where
   unfolding grid_of
   grid_at p h = tabulate_at (λ q. mark_of n m q (get_or cells q 0)) 1024 p 0 h
 
-  each : (p : ℕ) → p < length (grid_of n m cells) → mark_test n m p (get_or (grid_of n m cells) p 0) ≡ Accepted
+  each : (p : ℕ) → p < length (grid_of n m cells) → mark_test n m p (get_or (grid_of n m cells) p 0) ≡ Ok tt
   each p h = let l = grid_long in rw (grid_at p (omega arith), mark_allowed n m p (get_or cells p 0))
 
-  pub grid_formed : 1 ≤ n → n ≤ 30 → 1 ≤ m → m ≤ 30 → well_formed n m (grid_of n m cells) ≡ Accepted
+  pub grid_formed : 1 ≤ n → n ≤ 30 → 1 ≤ m → m ≤ 30 → well_formed n m (grid_of n m cells) ≡ Ok tt
   unfolding map_tests
   grid_formed a b d e =
       rw (le-leb _ _ a, le-leb _ _ b, le-leb _ _ d, le-leb _ _ e, eq-eqb _ _ grid_long) (scan_all (buffer_scan (mark_test n m) (grid_of n m cells)) each)

@@ -4,7 +4,7 @@ use Prim.Native.Nat.{ℕ, zero, suc, ◌+◌, ◌-◌, ◌<◌, ◌≤◌}
 use mathlib.Core.Path.{◌≡◌, refl, sym, ap, subst, ◌∙◌}
 use mathlib.Core.Bool.{Bool, true, false, cond, ◌||◌}
 use mathlib.Core.Logic.{⊎_elim}
-use mathlib.Core.List.{List}
+use mathlib.Core.List.{List, ◌∷◌}
 use native.Mathlib.Numerals.{add-one}
 use native.Mathlib.Omega.{arith}
 use borrow.Author.Tests.{leb-true, eqb-true, eqb-false, lt-ltb, le-ltb, le-leb, lt-leb, eq-eqb, ne_eqb}
@@ -21,13 +21,14 @@ use Rattle.array.proofs.Formed.{Formed, formed}
 use Rattle.array.proofs.Marks.{mark_read}
 use Rattle.array.proofs.Scans.{scan_all}
 use Rattle.grids.specs.Text.{character, text}
-use Rattle.grids.specs.Reading.{Rows, rows_of, no_rows, Taken, taken, take_line, take_lines, trim, blank_letter, processor_mark, mark_of, grid_of, length_test, processor_test, letter_test, position_test, rows_test, read_rows}
+use Rattle.std.specs.Prelude.{None, Result, Ok}
+use Rattle.grids.specs.declared.rows.Rows.{Rows}
+use Rattle.grids.specs.declared.wrong.Wrong.{Wrong}
+use Rattle.grids.specs.Reading.{good, with_row, no_rows, take_line, take_row, take_lines, trim, blank_letter, processor_mark, mark_of, grid_of, length_test, processor_test, letter_test, position_test, rows_test, read_rows}
 use Rattle.grids.specs.Theorems.{TextRoundTrip}
-use Rattle.grids.specs.declared.Judged.TheVariants as judged
-use Rattle.grids.specs.declared.TextRead.TheVariants as reading
 use Rattle.grids.proofs.Marks.{processor_allows, allowed_there, allowed_none, grid_long, grid_at}
-use Rattle.grids.proofs.Rows.{row_taken, line_row, lines_none, lines_on, rows_read, text_rows}
-use Rattle.grids.proofs.Judging.{wrong_scan, place_good}
+use Rattle.grids.proofs.RowLaws.{row_taken, line_row, lines_none, lines_on, rows_read, text_rows}
+use Rattle.grids.proofs.Judgements.{wrong_scan, place_good}
 use Rattle.grids.proofs.Stores.{sets_at, sets_other}
 use Rattle.grids.proofs.TextLines.{by_character, span_cons, trim_span_last, trim_span_kept, letter, row_list, text_lines}
 
@@ -132,16 +133,16 @@ module _ (n m : ℕ) (grid : List ℕ) (F : Formed n m grid) where
 
   -- The first x rows were taken up.
   record Held (x : ℕ) (r : Rows) : Type 0 where
-    pub count : r.seen.rows ≡ x
-    pub no_blank : r.seen.blank ≡ 0
+    pub count : r.count ≡ x
+    pub no_blank : r.blank ≡ None
     pub cells_long : length r.cells ≡ 1024
     pub lengths_long : length r.lengths ≡ 32
     pub lengths_are : (j : ℕ) → j < x → get_or r.lengths j 0 ≡ width n m j
     pub cells_are : (p : ℕ) → p < 1024 → get_or r.cells p 0 ≡ cond (ltb (row p) x) (character (mark_at grid p)) 32
 
-  record HeldAfter (x : ℕ) (t : Taken) : Type 0 where
+  record HeldAfter (x : ℕ) (t : Result Rows Wrong) : Type 0 where
     pub rows : Rows
-    pub is : taken rows ≡ t
+    pub is : t ≡ Ok rows
     pub held : Held x rows
 
   held_none : Held 0 no_rows
@@ -196,13 +197,13 @@ module _ (n m : ℕ) (grid : List ℕ) (F : Formed n m grid) where
         ∙ sym (ap character (mark_none p l (none_beyond (row p) (column p) (omega arith) (rw here d))))
         ∙ sym (cond_taken _ _ refl (lt-ltb (row p) (x + 1) (omega arith))))))
 
-    held_lengths : (j : ℕ) → j < x + 1 → get_or (set r.lengths r.seen.rows (width n m x)) j 0 ≡ width n m j
+    held_lengths : (j : ℕ) → j < x + 1 → get_or (set r.lengths r.count (width n m x)) j 0 ≡ width n m j
     held_lengths =
         let s = F.sizes in
         let c = H.count in
         let d = H.lengths_long in
         below_more _ x
-        (λ j g. get_or-set_other r.lengths r.seen.rows j (width n m x) 0 (λ e. omega arith) ∙ H.lengths_are j g)
+        (λ j g. get_or-set_other r.lengths r.count j (width n m x) 0 (λ e. omega arith) ∙ H.lengths_are j g)
         (rw c (get_or-set_same r.lengths x (width n m x) 0 (omega arith)))
 
     held_line : (k : ℕ) → HeldAfter (x + 1) (take_line k line r)
@@ -212,35 +213,43 @@ module _ (n m : ℕ) (grid : List ℕ) (F : Formed n m grid) where
         let w = width_is n m x in
         let f = letter grid x in
         let v : width n m x ≡ suc (width n m x - 1) = omega arith in
+        let long = tabulate_length f (width n m x) in
+        let e : line ≡ f 0 ∷ span f 1 (width n m x - 1) = ap (λ (j : ℕ). span f 0 j) v ∙ span_cons f 0 (width n m x - 1) in
         record {
-          rows =
-              rows_of (record { rows = r.seen.rows + 1; blank = 0 }) (sets r.cells (position x 0) line)
-              (set r.lengths r.seen.rows (width n m x)) (set r.lines r.seen.rows k);
+          rows = with_row k line r;
           is =
-              line_row k r (ap (λ (j : ℕ). span f 0 j) v ∙ span_cons f 0 (width n m x - 1))
+              ap (λ (l : List ℕ). take_line k l r) e
+              ∙ line_row k r (f 0) (span f 1 (width n m x - 1))
               (eqb-false (f 0) 35 (by_character (λ z. eqb z 35 ≡ false) refl refl refl refl (mark_at grid (position x 0))))
-              (row_taken k line r H.no_blank (omega arith) (tabulate_length f (width n m x)) (omega arith)
-              (ap (λ (z : ℕ). sets r.cells (position z 0) line) (sym c)));
+              ∙ ap (λ (l : List ℕ). take_row k l r) (sym e)
+              ∙ row_taken k line r H.no_blank (omega arith) (omega arith);
           held =
               record {
                 count = ap (λ (z : ℕ). z + 1) c;
                 no_blank = refl;
-                cells_long = length-sets r.cells (position x 0) line ∙ H.cells_long;
-                lengths_long = length-set r.lengths r.seen.rows (width n m x) ∙ H.lengths_long;
-                lengths_are = held_lengths;
-                cells_are = held_cells;
+                cells_long = length-sets r.cells (position r.count 0) line ∙ H.cells_long;
+                lengths_long = length-set r.lengths r.count (length line) ∙ H.lengths_long;
+                lengths_are = λ j g. ap (λ (z : ℕ). get_or (set r.lengths r.count z) j 0) long ∙ held_lengths j g;
+                cells_are = λ p g. ap (λ (z : ℕ). get_or (sets r.cells (position z 0) line) p 0) c ∙ held_cells p g;
               };
         }
 
   held_lines : (k x j : ℕ) (r : Rows) → Held x r → x + k ≡ n + 2 → HeldAfter (n + 2) (take_lines j (row_list m grid x k) r)
   held_lines zero x j r H e =
       let d : x ≡ n + 2 = omega arith in
-      record { rows = r; is = lines_none j r refl; held = subst (λ (z : ℕ). Held z r) d H }
+      record { rows = r; is = lines_none j r; held = subst (λ (z : ℕ). Held z r) d H }
   held_lines (suc k) x j r H e =
       let h : x ≤ n + 1 = omega arith in
       let a = held_line x r H h (j + 1) in
       let b = held_lines k (suc x) (j + 1) a.rows (subst (λ (z : ℕ). Held z a.rows) (add-one x) a.held) (omega arith) in
-      record { rows = b.rows; is = b.is ∙ sym (lines_on j r refl (trimmed_row x h) a.is); held = b.held }
+      record {
+        rows = b.rows;
+        is =
+            lines_on j (tabulate (letter grid x) (m + 2)) (row_list m grid (suc x) k) r a.rows
+            (ap (λ (l : List ℕ). take_line (j + 1) l r) (sym (trimmed_row x h)) ∙ a.is)
+            ∙ b.is;
+        held = b.held;
+      }
 
   -- all rows are good, and give the grid
   module _ (r : Rows) (H : Held (n + 2) r) where
@@ -252,27 +261,27 @@ module _ (n m : ℕ) (grid : List ℕ) (F : Formed n m grid) where
         cond_left _ _ refl (le-ltb (row p) (n + 2) l)
         ∙ sym (ap character (mark_none p h (rw (lt-leb (row p) (n + 1) (omega arith))))))
 
-    letter_good : (p line : ℕ) → p < 1024 → letter_test n m (row p) (column p) (get_or r.cells p 0) line ≡ judged.Good
+    letter_good : (p line : ℕ) → p < 1024 → letter_test n m (row p) (column p) (get_or r.cells p 0) line ≡ good
     letter_good p line h =
         by_bool (processor n m p)
         (λ t.
         ap (λ (b : ℕ). letter_test n m (row p) (column p) b line) (cell p h)
         ∙ cond_taken _ _ refl t
-        ∙ by_mark (λ i k. processor_test i (character k) line (column p + 1) ≡ judged.Good) (λ i. refl) (λ i. refl) refl (inner n m p)
+        ∙ by_mark (λ i k. processor_test i (character k) line (column p + 1) ≡ good) (λ i. refl) (λ i. refl) refl (inner n m p)
         (mark_at grid p) (mark_there p h t))
         (λ t.
         ap (λ (b : ℕ). letter_test n m (row p) (column p) b line) (cell p h ∙ ap character (mark_none p h t)) ∙ cond_left _ _ refl t)
 
-    length_good : (x line second : ℕ) → x ≤ n + 1 → length_test n m x (get_or r.lengths x 0) line second ≡ judged.Good
+    length_good : (x line second : ℕ) → x ≤ n + 1 → length_test n m x (get_or r.lengths x 0) line second ≡ good
     length_good x line second h =
         let d = H.lengths_are x (omega arith) in
         by_bool (outer n x) (λ t. rw (d, t, eq-eqb (m + 1) (m + 1) refl)) (λ t. rw (d, t, eq-eqb (m + 2) (m + 2) refl))
 
-    all_rows_good : judged.Good ≡ rows_test n m r.cells r.lengths r.lines
+    all_rows_good : good ≡ rows_test n m r
     unfolding rows_test
     all_rows_good =
         sym
-        (scan_all (wrong_scan (position_test n m r.cells r.lengths r.lines) 1024)
+        (scan_all (wrong_scan (position_test n m r) 1024)
         (λ p l.
         place_good (leb (row p) (n + 1)) (eqb (column p) 0) _ _
         (λ t. length_good (row p) (get_or r.lines (row p) 0) (get_or r.lines 1 0) (leb-true (row p) (n + 1) t))
@@ -289,28 +298,22 @@ module _ (n m : ℕ) (grid : List ℕ) (F : Formed n m grid) where
         ∙ mark_again p (omega arith)
         ∙ mark_read grid p h))
 
-    read_again : (old : List ℕ) → (reading.Grid n m, grid) ≡ read_rows r.seen.rows r.cells r.lengths r.lines old
+    read_again : (old : List ℕ) → read_rows r old ≡ (Ok (n, m), grid)
     read_again old =
         let s = F.sizes in
-        let x = r.seen.rows in
+        let x = r.count in
         let k = get_or r.lengths 1 0 in
         let c : x ≡ n + 2 = H.count in
         let d : k ≡ m + 2 = H.lengths_are 1 (omega arith) ∙ cond_left _ _ refl (ne_eqb 1 (n + 1) (λ e. omega arith)) in
-        let a : n ≡ x - 2 = omega arith in
-        let b : m ≡ k - 2 = omega arith in
-        ap (λ (z : ℕ). (reading.Grid z m, grid)) a
-        ∙ ap (λ (z : ℕ). (reading.Grid (x - 2) z, grid)) b
-        ∙ rows_read x r.cells r.lengths r.lines old (omega arith) (omega arith)
-        (all_rows_good
-        ∙ ap (λ (z : ℕ). rows_test z m r.cells r.lengths r.lines) a
-        ∙ ap (λ (z : ℕ). rows_test (x - 2) z r.cells r.lengths r.lines) b) refl
-        (grid_again ∙ ap (λ (z : ℕ). grid_of z m r.cells) a ∙ ap (λ (z : ℕ). grid_of (x - 2) z r.cells) b)
+        let a : x - 2 ≡ n = omega arith in
+        let b : k - 2 ≡ m = omega arith in
+        rows_read r old (omega arith) (omega arith)
+        (ap (λ (z : ℕ). rows_test z (k - 2) r) a ∙ ap (λ (z : ℕ). rows_test n z r) b ∙ sym all_rows_good)
+        ∙ rw (a, b) (ap (λ (g : List ℕ). (Ok (n, m), g)) (sym grid_again))
 
 pub text_round_trip : TextRoundTrip
 text_round_trip n m grid old h =
     let F = formed n m grid h in
     let a = held_lines n m grid F (n + 2) 0 0 no_rows (held_none n m grid F) (omega arith) in
-    sym
-    (text_rows (text n m grid) old
-    (a.is ∙ ap (λ (ls : List (List ℕ)). take_lines 0 ls no_rows) (sym (text_lines n m grid)))
-    (read_again n m grid F a.rows a.held old))
+    text_rows (text n m grid) old a.rows (ap (λ (ls : List (List ℕ)). take_lines 0 ls no_rows) (text_lines n m grid) ∙ a.is)
+    ∙ read_again n m grid F a.rows a.held old

@@ -1,5 +1,6 @@
 -- The text of a grid: where its bytes stand, how long it is, the loop that writes it, and what is answered.
 -- Assumes nothing.
+use Rattle.std.specs.Prelude.{Ok, Err}
 use Prim.Native.Nat.{ℕ, suc, ◌+◌, ◌-◌, ◌/◌, ◌%◌, ◌<◌, ◌≤◌}
 use mathlib.Core.Path.{◌≡◌, refl, sym, ap, subst, ◌∙◌}
 use mathlib.Core.Bool.{Bool}
@@ -16,11 +17,9 @@ use Rattle.array.specs.declared.Refusal.{Refusal}
 use Rattle.array.proofs.Bools.{and_one}
 use Rattle.array.proofs.Fills.{tabulate_length}
 use Rattle.writers.specs.Writing.{room_test, put}
-use Rattle.writers.specs.declared.FileWritten.TheVariants.{Length, Refused}
 use Rattle.writers.proofs.Accepted.{put_short, put_stored}
 use Rattle.formats.proofs.Runs.{Splits, Run, run_start}
 use Rattle.grids.specs.Text.{text_length, text_byte, text, write_text}
-use Rattle.array.specs.declared.Verdict.TheVariants as verdict
 
 -- the row and the column of an index
 pub column_low : (m i : ℕ) → i % (m + 3) < m + 3
@@ -61,20 +60,20 @@ module _ (n m : ℕ) (grid out : List ℕ) where
       subst (λ (z : List ℕ). Run out 0 (text n m grid) out 0 z) (whole k e) r
 
   -- what is answered
-  pub text_refused : {k : ℕ} → k ≡ text_length n m → length out < k → (Refused (refusal 14 k 0), out) ≡ put (room_test (text n m grid) out) (text n m grid) out
+  pub text_refused : {k : ℕ} → k ≡ text_length n m → length out < k → (Err (refusal 14 k 0), out) ≡ put (room_test (text n m grid) out) (text n m grid) out
   text_refused {k} e h =
       let l : k ≡ length (text n m grid) = e ∙ sym long_text in rw l (sym (put_short (text n m grid) out (omega arith)))
 
   pub text_written :
-      {k : ℕ} {new : List ℕ} → k ≡ text_length n m → k ≤ length out → new ≡ sets out 0 (text n m grid) → (Length k, new) ≡ put (room_test (text n m grid) out) (text n m grid) out
+      {k : ℕ} {new : List ℕ} → k ≡ text_length n m → k ≤ length out → new ≡ sets out 0 (text n m grid) → (Ok k, new) ≡ put (room_test (text n m grid) out) (text n m grid) out
   text_written {k} e h w =
       let l : k ≡ length (text n m grid) = e ∙ sym long_text in rw (l, w) (sym (put_stored (text n m grid) out (omega arith)))
 
   pub tests_are : map_tests n m (long grid) grid ≡ well_formed n m grid
   tests_are = ap (λ (z : Bool). map_tests n m z grid) (sym (and_one (long grid)))
 
-  pub by_tests : {r : Refusal} → well_formed n m grid ≡ verdict.Refused r → (Refused r, out) ≡ write_text n m grid out
+  pub by_tests : {r : Refusal} → well_formed n m grid ≡ Err r → (Err r, out) ≡ write_text n m grid out
   by_tests h = rw h
 
-  pub by_room : well_formed n m grid ≡ verdict.Accepted → put (room_test (text n m grid) out) (text n m grid) out ≡ write_text n m grid out
+  pub by_room : well_formed n m grid ≡ Ok tt → put (room_test (text n m grid) out) (text n m grid) out ≡ write_text n m grid out
   by_room h = rw h

@@ -1,20 +1,19 @@
 -- What the parts of the reader of texts are called under, and what they give.
 -- Assumes nothing.
-use Rattle.std.specs.Prelude.{ℕ, suc, ◌+◌, ◌≤◌, cond, List, [], ◌∷◌, eqb, length}
-use Rattle.grids.specs.Reading.{Taken, taken, wrong, rows_of}
-use Rattle.grids.specs.declared.Step.{Step}
-use Rattle.grids.specs.declared.Step.TheVariants.{Next, Wrong}
+use Rattle.std.specs.Prelude.{ℕ, ◌≤◌, List, eqb, get_or, ⊤, Result, Ok, Err}
+use Rattle.std.specs.List.{position_or_len}
+use Rattle.grids.specs.declared.rows.Rows.{Rows}
+use Rattle.grids.specs.declared.wrong.Wrong.{Wrong}
 
--- a row of at most 32 characters, from an offset to another
-abbrev pub Within : List ℕ → ℕ → ℕ → Type 0
-Within s start end = (start ≤ end) × (end ≤ length s) × (end ≤ start + 32)
+-- no more than 32 rows were taken up, and the second has no more than 32 characters
+abbrev pub Small : Rows → Type 0
+Small r = (r.count ≤ 32) × (get_or r.lengths 1 0 ≤ 32)
 
 -- how many characters come before the first line feed
-unfoldable pub line_length : List ℕ → ℕ
-line_length [] = 0
-line_length (c ∷ s) = cond (eqb c 10) 0 (suc (line_length s))
+abbrev pub line_length : List ℕ → ℕ
+line_length s = position_or_len (λ c. eqb c 10) s
 
--- what a step answers, with the characters, lengths and lines afterwards
-abbrev pub taken_as : Step → List ℕ → List ℕ → List ℕ → Taken
-taken_as (Next seen) cells lengths lines = taken (rows_of seen cells lengths lines)
-taken_as (Wrong w) cells lengths lines = wrong w
+-- what a step answers, with the rows afterwards
+abbrev pub taken : Result ⊤ Wrong → Rows → Result Rows Wrong
+taken (Ok x) r = Ok r
+taken (Err w) r = Err w

@@ -5,8 +5,7 @@ use Rattle.array.specs.Place.{position}
 use Rattle.array.specs.Buffer.{tabulate}
 use Rattle.array.specs.Map.{dead_mark, mark_at, well_formed}
 use Rattle.array.specs.Tests.{or_else}
-use Rattle.writers.specs.Writing.{room_test, put}
-use Rattle.writers.specs.declared.FileWritten.{FileWritten}
+use Rattle.writers.specs.Writing.{room_test, put, FileWritten}
 
 -- '.' healthy, 'X' faulty, 'D' dead, a space where no processor is
 abbrev pub character : ℕ → ℕ

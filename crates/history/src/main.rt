@@ -9,16 +9,14 @@ ghost use Rattle.std.specs.Prelude.{◌≡◌};
 ghost use Rattle.history.specs.Held.{held_after};
 
 use array::{Refusal, Verdict};
-use previews::Foretold;
-use readers::{FileRead, Head, MapRead};
+use readers::Head;
 use sessions::Session;
+use std::fmt;
+use words::{FirstWords, Lines};
 
-// The descriptors of standard input and standard output.
+// The descriptors that are read: standard input, the map file and the plan file.
 const STDIN_FILENO: i32 = 0;
 
-const STDOUT_FILENO: i32 = 1;
-
-// The descriptors of the two files.
 const MAP: i32 = 3;
 
 const PLAN: i32 = 4;
@@ -34,272 +32,220 @@ enum Asked {
     Preview,
 }
 
-// A session after a line, and whether the line was a wrong one.
+impl Asked {
+    fn of(word: &[u8]) -> Option<Self> {
+        match word {
+            b"fail" => Some(Asked::Fail),
+            b"recover" => Some(Asked::Recover),
+            b"preview" => Some(Asked::Preview),
+            _ => None,
+        }
+    }
+}
+
+impl fmt::Display for Asked {
+    fn fmt<W: fmt::Write>(&self, f: &mut fmt::Formatter<W>) -> fmt::Result {
+        f.write_str(match self {
+            Asked::Fail => "fail",
+            Asked::Recover => "recover",
+            Asked::Preview => "preview",
+        })
+    }
+}
+
+// A line that asks something of the processor in a row and a column.
 #[derive(Clone, Copy)]
-struct Step {
-    session: Session,
-    wrong: bool,
+struct Line {
+    asked: Asked,
+    row: usize,
+    column: usize,
 }
 
-// Tells words.
-fn say(text: &[u8]) {
-    io::write_all(STDOUT_FILENO, text);
-}
-
-// Tells a space and a number.
-fn say_field(k: usize) {
-    say(b" ");
-    io::print_decimal(STDOUT_FILENO, k as u64);
-}
-
-// Tells a line of words and two numbers.
-fn say_two(text: &[u8], j: usize, k: usize) {
-    say(text);
-    say_field(j);
-    say_field(k);
-    say(b"\n");
-}
-
-// Tells the number and the place of a refused file of this kind.
-fn say_refusal(kind: &[u8], r: Refusal) {
-    say(kind);
-    say_two(b" refused", r.number as usize, r.place);
-}
-
-// Tells what a line asks.
-fn say_asked(asked: Asked, row: usize, column: usize) {
-    match asked {
-        Asked::Fail => say(b"fail"),
-        Asked::Recover => say(b"recover"),
-        Asked::Preview => say(b"preview"),
+impl Line {
+    fn of(words: &[&[u8]]) -> Option<Self> {
+        let [asked, row, column] = words else {
+            return None;
+        };
+        Some(Line {
+            asked: Asked::of(asked)?,
+            row: words::number(row)?,
+            column: words::number(column)?,
+        })
     }
-    say_field(row);
-    say_field(column);
+
+    fn position(&self) -> usize {
+        if self.row < 32 && self.column < 32 {
+            self.row * 32 + self.column
+        } else {
+            NONE
+        }
+    }
 }
 
-// Tells what comes or goes: the path in this direction, or, where it is 0, only a spare's mark.
-fn say_change(direction: u8) {
+impl fmt::Display for Line {
+    fn fmt<W: fmt::Write>(&self, f: &mut fmt::Formatter<W>) -> fmt::Result {
+        let Line { asked, row, column } = self;
+        write!(f, "{asked} {row} {column}")
+    }
+}
+
+// What a line is answered: that the path in a direction has come or gone, or only a spare's mark where the direction is 0;
+// that a failure would do so and change so many counters; or a refusal.
+#[derive(Clone, Copy)]
+enum Told {
+    Changed(u8),
+    Foretold(u8, usize),
+    Refused(Refusal),
+}
+
+impl fmt::Display for Told {
+    fn fmt<W: fmt::Write>(&self, f: &mut fmt::Formatter<W>) -> fmt::Result {
+        match self {
+            Told::Changed(direction) => f.write_str(change(*direction)),
+            Told::Foretold(direction, counters) => write!(f, "{} {counters}", change(*direction)),
+            Told::Refused(r) => write!(f, "refused {} {}", r.number(), r.place),
+        }
+    }
+}
+
+// What comes or goes in this direction.
+fn change(direction: u8) -> &'static str {
     match direction {
-        1 => say(b" path S"),
-        2 => say(b" path N"),
-        3 => say(b" path E"),
-        4 => say(b" path W"),
-        _ => say(b" spare"),
+        1 => "path S",
+        2 => "path N",
+        3 => "path E",
+        4 => "path W",
+        _ => "spare",
     }
 }
 
-// Tells what a report has changed, or its refusal.
-fn say_answer(answer: Verdict, direction: u8) {
+// What a report is answered that changes the path in this direction.
+fn reported(answer: Verdict, direction: u8) -> Told {
     match answer {
-        Verdict::Accepted => {
-            say_change(direction);
-            say(b"\n");
-        }
-        Verdict::Refused(r) => say_two(b" refused", r.number as usize, r.place),
+        Ok(()) => Told::Changed(direction),
+        Err(r) => Told::Refused(r),
     }
 }
 
-// Tells what a failure would change, with the number of counters, or its refusal.
-fn say_preview(answer: Verdict, foretold: Foretold, changes: usize) {
-    match answer {
-        Verdict::Accepted => {
-            say_change(foretold.direction);
-            say_field(changes);
-            say(b"\n");
-        }
-        Verdict::Refused(r) => say_two(b" refused", r.number as usize, r.place),
+// What a failure would do.
+fn previewed(s: Session, p: usize) -> Told {
+    let r = previews::preview(s, true, p);
+    match r.answer {
+        Ok(()) => Told::Foretold(r.foretold.direction, previews::count_changes(s, r.foretold)),
+        Err(e) => Told::Refused(e),
     }
-}
-
-// The position of a row and a column, or none.
-fn position_of(row: usize, column: usize) -> usize {
-    if 31 < row {
-        return NONE;
-    }
-    if 31 < column {
-        return NONE;
-    }
-    row * 32 + column
 }
 
 // The direction that a session has at a position, 0 where it has none.
 fn direction_at(s: Session, p: usize) -> u8 {
-    let directions = s.directions;
-    words::get(&directions, p)
+    s.directions.get(p).copied().unwrap_or(0)
 }
 
-// Tells what a failure would do.
-fn preview(s: Session, p: usize) {
-    let r = previews::preview(s, true, p);
-    let answer = r.answer;
-    let foretold = r.foretold;
-    say_preview(answer, foretold, previews::count_changes(s, foretold));
-}
-
-// Does what a line asks and tells its answer. The session is the one that is held then.
-fn carry_out(s: Session, asked: Asked, p: usize) -> Session
-    ensures { result ≡ held_after s asked p }
+// Does what a line asks: the session that is held then, and the answer.
+fn carry_out(s: Session, asked: Asked, p: usize) -> (Session, Told)
+    ensures { result.0 ≡ held_after s asked p }
 {
     match asked {
         Asked::Fail => {
             let r = sessions::report(s, true, p);
-            let answer = r.answer;
-            let failed = r.session;
-            say_answer(answer, direction_at(failed, p));
-            failed
+            (r.session, reported(r.answer, direction_at(r.session, p)))
         }
         Asked::Recover => {
             let r = sessions::report(s, false, p);
-            let answer = r.answer;
-            let recovered = r.session;
-            say_answer(answer, direction_at(s, p));
-            recovered
+            (r.session, reported(r.answer, direction_at(s, p)))
         }
-        Asked::Preview => {
-            preview(s, p);
-            s
+        Asked::Preview => (s, previewed(s, p)),
+    }
+}
+
+// Tells what each line of a text is answered, up to the first that is wrong.
+fn tell_all(rt: &impl Print, first: Session, text: &[u8]) -> std::io::Result<()> {
+    let mut held = first;
+    for (i, line) in Lines::of(text).enumerate() {
+        let words = FirstWords::of(line);
+        let words = words.as_slice();
+        if matches!(words, [] | [[b'#', ..], ..]) {
+            continue;
         }
-    }
-}
-
-// Whether a line is blank or a comment.
-fn is_remark(line: &[u8]) -> bool {
-    let first = words::word_at(line, 0);
-    words::is_empty(first) | (words::get(line, first.start) == b'#')
-}
-
-// Whether a line asks something.
-fn is_asking(line: &[u8]) -> bool {
-    let report = words::is_word(line, 0, b"fail") | words::is_word(line, 0, b"recover");
-    let known = report | words::is_word(line, 0, b"preview");
-    let numbers = words::number(line, 1).ok & words::number(line, 2).ok;
-    (known & numbers) & words::has_words(line, 3)
-}
-
-// What such a line asks.
-fn asked_by(line: &[u8]) -> Asked {
-    if words::is_word(line, 0, b"fail") {
-        return Asked::Fail;
-    }
-    if words::is_word(line, 0, b"recover") {
-        return Asked::Recover;
-    }
-    Asked::Preview
-}
-
-// A line that is no remark, k-th of its text.
-fn obey(s: Session, line: &[u8], k: usize) -> Step {
-    if !is_asking(line) {
-        say(b"wrong");
-        say_field(k);
-        say(b"\n");
-        return Step {
-            session: s,
-            wrong: true,
+        let Some(line) = Line::of(words) else {
+            return println!(rt; "wrong {}", i + 1);
         };
+        let (after, told) = carry_out(held, line.asked, line.position());
+        println!(rt; "{line} {told}")?;
+        held = after;
     }
-    let row = words::number(line, 1).value;
-    let column = words::number(line, 2).value;
-    let asked = asked_by(line);
-    say_asked(asked, row, column);
-    let after = carry_out(s, asked, position_of(row, column));
-    Step {
-        session: after,
-        wrong: false,
-    }
+    Ok(())
 }
 
-fn take_line(s: Session, line: &[u8], k: usize) -> Step {
-    if is_remark(line) {
-        return Step {
-            session: s,
-            wrong: false,
-        };
-    }
-    obey(s, line, k)
+// Why two files start no session.
+#[derive(Clone, Copy)]
+enum NoSession {
+    Map(Refusal),
+    Plan(Refusal),
+    Sizes(Head, Head),
+    Refused(Refusal),
 }
 
-// All lines of a text.
-fn tell_all(first: Session, text: &[u8]) {
-    if 65536 < text.len() {
-        return;
-    }
-    let mut s = first;
-    let mut at = 0;
-    let mut k = 1;
-    while at < text.len() {
-        let end = words::line_end(text, at);
-        let r = take_line(s, &text[at..end], k);
-        if r.wrong {
-            return;
-        }
-        let after = r.session;
-        s = after;
-        at = end + 1;
-        k += 1;
-    }
-}
-
-// Starts a session from a plan with so many paths, and tells of the reports.
-fn start(n: usize, m: usize, grid: &[u8], directions: &[u8], count: usize, text: &[u8]) {
-    let r = sessions::start_session(n, m, grid, directions);
-    let answer = r.answer;
-    let session = r.session;
-    match answer {
-        Verdict::Accepted => {
-            say(b"session");
-            say_field(n);
-            say_two(b"", m, count);
-            tell_all(session, text);
-        }
-        Verdict::Refused(e) => {
-            say(b"no plan");
-            say_field(e.number as usize);
-            say_two(b"", e.place, e.second);
+impl fmt::Display for NoSession {
+    fn fmt<W: fmt::Write>(&self, f: &mut fmt::Formatter<W>) -> fmt::Result {
+        match self {
+            NoSession::Map(r) => write!(f, "map refused {} {}", r.number(), r.place),
+            NoSession::Plan(r) => write!(f, "plan refused {} {}", r.number(), r.place),
+            NoSession::Sizes(map, plan) => {
+                write!(
+                    f,
+                    "sizes {} {} {} {}",
+                    map.rows, map.columns, plan.rows, plan.columns
+                )
+            }
+            NoSession::Refused(r) => write!(f, "no plan {} {} {}", r.number(), r.place, r.second),
         }
     }
 }
 
-// Compares the sizes of a map and a plan that were read.
-fn compare(map: Head, grid: &[u8], plan: Head, directions: &[u8], text: &[u8]) {
-    if (map.rows != plan.rows) | (map.columns != plan.columns) {
-        say(b"sizes");
-        say_field(map.rows);
-        say_field(map.columns);
-        say_two(b"", plan.rows, plan.columns);
-        return;
-    }
-    start(map.rows, map.columns, grid, directions, plan.count, text);
-}
-
-// Reads the plan file.
-fn read_plan(map: Head, grid: &[u8], s: &[u8], text: &[u8]) {
-    let mut directions = [0u8; 1024];
-    match readers::read_plan(s, &mut directions) {
-        FileRead::File(plan, _) => compare(map, grid, plan, &directions, text),
-        FileRead::Refused(r) => say_refusal(b"plan", r),
-    }
-}
-
-// Reads both files.
-fn read_files(s: &[u8], t: &[u8], text: &[u8]) {
+// The session that a map file and a plan file start, and the head of the plan.
+fn start(map: &[u8], plan: &[u8]) -> Result<(Session, Head), NoSession> {
     let mut grid = [2u8; 1024];
-    match readers::read_map(s, &mut grid) {
-        MapRead::File(map) => read_plan(map, &grid, t, text),
-        MapRead::Refused(r) => say_refusal(b"map", r),
+    let map = match readers::read_map(map, &mut grid) {
+        Ok(head) => head,
+        Err(r) => return Err(NoSession::Map(r)),
+    };
+    let mut directions = [0u8; 1024];
+    let plan = match readers::read_plan(plan, &mut directions) {
+        Ok((head, _)) => head,
+        Err(r) => return Err(NoSession::Plan(r)),
+    };
+    if map.rows != plan.rows || map.columns != plan.columns {
+        return Err(NoSession::Sizes(map, plan));
+    }
+    let r = sessions::start_session(map.rows, map.columns, &grid, &directions);
+    match r.answer {
+        Ok(()) => Ok((r.session, plan)),
+        Err(e) => Err(NoSession::Refused(e)),
     }
 }
 
-fn main() {
+// Tells of the session that the files start, and of each line of the text.
+fn tell(rt: &impl Print, map: &[u8], plan: &[u8], text: &[u8]) -> std::io::Result<()> {
+    if 65536 <= text.len() {
+        return println!(rt; "long");
+    }
+    match start(map, plan) {
+        Ok((session, head)) => {
+            println!(rt; "session {} {} {}", head.rows, head.columns, head.count)?;
+            tell_all(rt, session, text)
+        }
+        Err(e) => println!(rt; "{e}"),
+    }
+}
+
+fn main(rt: HostRuntime) {
     let mut map = io::buffer();
     let n = io::read_full(MAP, &mut map);
     let mut plan = io::buffer();
     let k = io::read_full(PLAN, &mut plan);
     let mut text = io::large_buffer();
     let length = io::read_full(STDIN_FILENO, &mut text);
-    if 65536 <= length {
-        say(b"long\n");
-        return;
-    }
-    read_files(&map[..n], &plan[..k], &text[..length]);
+    // What cannot be written is lost: the status stays 0.
+    let _ = tell(&rt, &map[..n], &plan[..k], &text[..length]);
 }

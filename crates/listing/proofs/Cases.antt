@@ -9,48 +9,36 @@ use Rattle.trials.specs.declared.Outcome.{Outcome}
 use Rattle.trials.specs.declared.Outcome.TheVariants.{Repaired, Beyond, Spent}
 use Rattle.exact.specs.declared.Decision.{Decision}
 use Rattle.exact.specs.declared.Decision.TheVariants as decision
-use Rattle.repair.specs.Operations.{plan_by, directions_by}
+use Rattle.repair.specs.Operations.{plan_by, directions_by, places_after, across_after, down_after}
 use Rattle.repair.specs.declared.Planner.{Planner}
 use Rattle.repair.specs.declared.Answer.{Answer}
 use Rattle.repair.proofs.Answers.{answers_kept}
 use Rattle.repair.specs.declared.Answer.TheVariants as answer
 use Rattle.repair.specs.Operations as repair
-use Rattle.readers.specs.Reading.{read_map}
+use Rattle.readers.specs.Reading.{read_map, MapRead}
 use Rattle.readers.specs.declared.Head.{Head}
-use Rattle.readers.specs.declared.MapRead.{MapRead}
 use Rattle.readers.specs.Reading as reading
 use Rattle.readers.proofs.Answers.{map_kept}
-use Rattle.readers.specs.declared.MapRead.TheVariants as reader
-use Rattle.formats.proofs.Runs.{Splits, splits}
-use Rattle.listing.specs.Listing.{along, field, line, newline, fault_bytes, seat_bytes, letter_bytes, switch_line}
+use Rattle.listing.specs.Listing.{along, line, newline, fault_bytes, seat_bytes, switch_line}
 use Rattle.listing.specs.Listing.{across_word, down_word, repaired_word, beyond_word, spent_word}
 use Rattle.listing.specs.Listing.{plan_lines, repair_lines, outcome_lines, decision_lines, refusal_line, head_line, limit}
 use Rattle.listing.specs.Listing.{map_lines, planned_lines, file_lines, listing}
+use Rattle.std.specs.Prelude.{Ok, Err}
 
--- the first part of a line, and of the lines of a plan
-pub line_first : (word values end : List ℕ) → Splits (line word values end) word (along field 0 values ++ end)
-unfolding line
-line_first word values end = splits word (along field 0 values ++ end)
-
-pub switch_first : (word switches : List ℕ) → Splits (switch_line word switches) word (along letter_bytes 0 switches ++ newline)
-unfolding switch_line
-switch_first word switches = splits word (along letter_bytes 0 switches ++ newline)
-
-pub plan_first :
-    (n m : ℕ) (grid directions places across down : List ℕ) →
-    Splits (plan_lines n m grid directions places across down) (along (fault_bytes n m directions) 0 grid)
-    (along (seat_bytes n m) 0 places ++ (switch_line across_word across ++ switch_line down_word down))
-unfolding plan_lines
-plan_first n m grid directions places across down =
-    splits (along (fault_bytes n m directions) 0 grid)
-    (along (seat_bytes n m) 0 places ++ (switch_line across_word across ++ switch_line down_word down))
+-- the lines of a plan, by the placement and the switches that were filled for it
+pub repair_is : (n m : ℕ) (grid directions : List ℕ) {places across down : List ℕ} → places ≡ places_after n m grid directions zeros
+    → across ≡ across_after n m grid directions zeros zeros → down ≡ down_after n m grid directions zeros zeros
+    → along (fault_bytes n m directions) 0 grid ++ (along (seat_bytes n m) 0 places ++ (switch_line across_word across ++ switch_line down_word down))
+    ≡ repair_lines n m grid directions
+unfolding repair_lines plan_lines
+repair_is n m grid directions p a d = rw (p, a, d) refl
 
 -- an outcome that is known
 module _ (n m : ℕ) (grid directions : List ℕ) {o : Outcome} {t : ℕ} where
   pub outcome_repaired :
-      o ≡ Repaired t → Splits (outcome_lines n m grid directions o) (line repaired_word (t ∷ []) newline) (repair_lines n m grid directions)
+      o ≡ Repaired t → outcome_lines n m grid directions o ≡ (line repaired_word (t ∷ []) newline) ++ (repair_lines n m grid directions)
   unfolding outcome_lines
-  outcome_repaired e = record { is = rw e refl }
+  outcome_repaired e = rw e refl
 
   pub outcome_beyond : o ≡ Beyond t → outcome_lines n m grid directions o ≡ line beyond_word (t ∷ []) newline
   unfolding outcome_lines
@@ -63,9 +51,9 @@ module _ (n m : ℕ) (grid directions : List ℕ) {o : Outcome} {t : ℕ} where
 -- a decision that is known
 module _ (n m : ℕ) (grid directions : List ℕ) {d : Decision} where
   pub decision_repaired : d ≡ decision.Repaired
-      → Splits (decision_lines n m grid directions d) (repaired_word ++ newline) (repair_lines n m grid directions)
+      → decision_lines n m grid directions d ≡ (repaired_word ++ newline) ++ (repair_lines n m grid directions)
   unfolding decision_lines
-  decision_repaired e = record { is = rw e refl }
+  decision_repaired e = rw e refl
 
   pub decision_beyond : d ≡ decision.Beyond → decision_lines n m grid directions d ≡ beyond_word ++ newline
   unfolding decision_lines
@@ -86,17 +74,15 @@ module _ (pl : Planner) (head : Head) (grid : List ℕ) (r : Answer) {directions
 
   pub map_planned :
       {o : Outcome} → r ≡ answer.Planned o
-      → Splits (planned_lines pl head grid) (head_line head)
-      (outcome_lines head.rows head.columns grid directions' o)
+      → planned_lines pl head grid ≡ head_line head ++ outcome_lines head.rows head.columns grid directions' o
   unfolding map_lines
-  map_planned h = record { is = rw (answer_is, h, directions_are) refl }
+  map_planned h = rw (answer_is, h, directions_are) refl
 
   pub map_decided :
       {x : Decision} → r ≡ answer.Decided x
-      → Splits (planned_lines pl head grid) (head_line head)
-      (decision_lines head.rows head.columns grid directions' x)
+      → planned_lines pl head grid ≡ head_line head ++ decision_lines head.rows head.columns grid directions' x
   unfolding map_lines
-  map_decided h = record { is = rw (answer_is, h, directions_are) refl }
+  map_decided h = rw (answer_is, h, directions_are) refl
 
   pub map_refused : {s : Refusal} → r ≡ answer.Refused s → planned_lines pl head grid ≡ refusal_line s
   unfolding map_lines
@@ -111,10 +97,10 @@ module _ (pl : Planner) (s : List ℕ) (r : MapRead) {grid grid' : List ℕ} (b 
       pair_is : (x : MapRead × List ℕ) → r ≡ x.0 → grid' ≡ x.1 → (r, grid') ≡ x
       pair_is (y, z) h g = rw (h, g) refl
 
-  pub file_read : {head : Head} → r ≡ reader.File head → listing pl s ≡ planned_lines pl head grid'
+  pub file_read : {head : Head} → r ≡ Ok head → listing pl s ≡ planned_lines pl head grid'
   unfolding listing file_lines
   file_read h = rw (read_is, h) refl
 
-  pub file_refused : {x : Refusal} → r ≡ reader.Refused x → listing pl s ≡ refusal_line x
+  pub file_refused : {x : Refusal} → r ≡ Err x → listing pl s ≡ refusal_line x
   unfolding listing file_lines
   file_refused h = rw (read_is, h) refl

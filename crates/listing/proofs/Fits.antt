@@ -1,5 +1,6 @@
 -- The listing of any file has at most 32,768 bytes.
 -- Assumes nothing.
+use Rattle.std.specs.Prelude.{Ok, Err}
 use Prim.Native.Nat.{ℕ, zero, suc, ◌+◌, ◌-◌, ◌*◌, ◌/◌, ◌%◌, ◌<◌, ◌≤◌}
 use mathlib.Core.Path.{◌≡◌, refl, sym, ap, subst, ◌∙◌}
 use mathlib.Core.Bool.{Bool, true, false, true≢false}
@@ -12,9 +13,9 @@ use lib.ListN.{length, get_or, length-append}
 use Rattle.array.specs.Place.{row, column, inner}
 use Rattle.array.specs.Buffer.{nothing_at, zeros, long, all_long, written}
 use Rattle.array.specs.Map.{inner_faulty}
+use Rattle.array.specs.Reason.{number_of}
 use Rattle.array.specs.declared.Refusal.{Refusal}
-use Rattle.array.specs.declared.Verdict.{Verdict}
-use Rattle.array.specs.declared.Verdict.TheVariants.{Accepted, Refused}
+use Rattle.array.specs.Tests.{Verdict}
 use Rattle.array.proofs.Bools.{and_true, by_bool, by_lt}
 use Rattle.array.proofs.Places.{Sized, inner_holds}
 use Rattle.array.proofs.Maps.{AcceptedMap, map_accepted}
@@ -29,14 +30,12 @@ use Rattle.repair.specs.Operations.{place_cells, places_after, across_after, dow
 use Rattle.repair.specs.declared.Planner.{Planner}
 use Rattle.repair.specs.declared.Answer.{Answer}
 use Rattle.repair.proofs.Cells.{cell_low, placement_at, seat_low}
-use Rattle.readers.specs.Reading.{read_map}
+use Rattle.readers.specs.Reading.{read_map, MapRead}
 use Rattle.readers.specs.declared.Head.{Head}
-use Rattle.readers.specs.declared.MapRead.{MapRead}
 use Rattle.listing.specs.Listing.{along, digits, field, line, newline, map_word, repaired_word, beyond_word, spent_word, refused_word, path_word, cell_word, across_word, down_word, direction_letter, path_line, cell_line, fault_bytes, seat_bytes, letter_bytes, switch_line, plan_lines, repair_lines, outcome_lines, refusal_line, head_line, limit, map_lines, file_lines, listing, ListingFits}
 use Rattle.listing.specs.Listing.{decision_lines, answer_lines, left_by_planner}
 use Rattle.listing.proofs.Buffers.{places_long, across_long, down_long}
 use Rattle.repair.specs.declared.Answer.TheVariants as answer
-use Rattle.readers.specs.declared.MapRead.TheVariants as reader
 
 -- at most k bytes at a position, and none at those below z
 abbrev Few : ℕ → ℕ → ℕ → List ℕ → Type 0
@@ -160,8 +159,8 @@ switches_short word switches l =
     omega (arith, length-append word (along letter_bytes 0 switches ++ newline), length-append (along letter_bytes 0 switches) newline)
 
 written_low : (v : Verdict) (new : List ℕ) (p : ℕ) → p < 1024 → get_or new p 0 < 1024 → get_or (written v new zeros) p 0 < 1024
-written_low Accepted new p h l = l
-written_low (Refused r) new p h l = omega (arith, tabulate_at nothing_at 1024 p 0 h)
+written_low (Ok tt) new p h l = l
+written_low (Err r) new p h l = omega (arith, tabulate_at nothing_at 1024 p 0 h)
 
 -- the lines of a map that passed its tests
 module _ (n m : ℕ) (grid directions : List ℕ) (s : Sized n m) (l : length grid ≡ 1024) where
@@ -235,11 +234,11 @@ unfolding refusal_line
 refusal_short r =
     omega (
       arith,
-      line_length refused_word (r.number ∷ r.place ∷ []) newline,
-      fields_cons 0 r.number (r.place ∷ []),
+      line_length refused_word ((number_of r.reason) ∷ r.place ∷ []) newline,
+      fields_cons 0 (number_of r.reason) (r.place ∷ []),
       fields_cons 1 r.place [],
       fields_nil 2,
-      digits_most 19 r.number,
+      digits_most 19 (number_of r.reason),
       digits_most 19 r.place,
     )
 
@@ -271,9 +270,9 @@ module _ (pl : Planner) (head : Head) (grid : List ℕ) where
   abbrev m : ℕ
   m = head.columns
 
-  passed : (v : Verdict) (a b : Answer) → answer_after v a ≡ b → (is_refused b ≡ false) → v ≡ Accepted
-  passed Accepted a b h u = refl
-  passed (Refused r) a b h u = absurd (true≢false (ap is_refused h ∙ u))
+  passed : (v : Verdict) (a b : Answer) → answer_after v a ≡ b → (is_refused b ≡ false) → v ≡ Ok tt
+  passed (Ok tt) a b h u = refl
+  passed (Err r) a b h u = absurd (true≢false (ap is_refused h ∙ u))
 
   planned_map : (a : Answer) → plan_by pl n m grid zeros limit ≡ a → is_refused a ≡ false
       → AcceptedMap n m (all_long (grid ∷ zeros ∷ [])) grid
@@ -300,9 +299,9 @@ module _ (pl : Planner) (head : Head) (grid : List ℕ) where
 
 file_short : (pl : Planner) (x : MapRead × List ℕ) → length (file_lines pl x) ≤ 32768
 unfolding file_lines
-file_short pl (reader.File head, grid) =
+file_short pl (Ok head, grid) =
     map_short pl head grid (plan_by pl head.rows head.columns grid zeros limit) refl
-file_short pl (reader.Refused r, grid) = omega (arith, refusal_short r)
+file_short pl (Err r, grid) = omega (arith, refusal_short r)
 
 pub listing_fits : ListingFits
 unfolding listing

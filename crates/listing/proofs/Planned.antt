@@ -1,5 +1,6 @@
 -- The listing of a map that was read has no line of a refusal.
 -- Assumes nothing.
+use Rattle.std.specs.Prelude.{Ok}
 use Prim.Native.Nat.{ℕ}
 use mathlib.Core.Path.{◌≡◌, refl, ap, ◌∙◌}
 use mathlib.Core.Bool.{true, ◌&&◌}
@@ -8,7 +9,6 @@ use lib.ListN.{length}
 use borrow.Author.Tests.{eq-eqb}
 use Rattle.array.specs.Buffer.{long, zeros, nothing_at}
 use Rattle.array.specs.Map.{well_formed}
-use Rattle.array.specs.declared.Verdict.TheVariants.{Accepted}
 use Rattle.array.proofs.Fills.{tabulate_length}
 use Rattle.array.proofs.Formed.{formed_lent, grid_and}
 use Rattle.trials.specs.Trials.{Search}
@@ -22,17 +22,17 @@ use Rattle.writers.specs.Writing.{buffer_test}
 use Rattle.files.proofs.Sound.{sound_reading}
 use Rattle.listing.specs.Listing.{limit, head_line, answer_lines, left_by_planner, map_lines, file_lines, listing, MapsListed}
 
-formed_map : (n m : ℕ) (grid : List ℕ) → buffer_test Map n m grid ≡ Accepted → well_formed n m grid ≡ Accepted
+formed_map : (n m : ℕ) (grid : List ℕ) → buffer_test Map n m grid ≡ Ok tt → well_formed n m grid ≡ Ok tt
 unfolding buffer_test
 formed_map n m grid h = h
 
 -- the planner's tests of a well-formed map with blank directions
-tested : (n m : ℕ) (grid : List ℕ) → well_formed n m grid ≡ Accepted → planner_test n m grid zeros ≡ Accepted
+tested : (n m : ℕ) (grid : List ℕ) → well_formed n m grid ≡ Ok tt → planner_test n m grid zeros ≡ Ok tt
 tested n m grid h =
     formed_lent n m grid (long grid && (long zeros && true)) h
     (grid_and n m grid (long zeros && true) h (rw (eq-eqb (length zeros) 1024 (tabulate_length nothing_at 1024)) refl))
 
-module _ (pl : Planner) (n m : ℕ) (grid : List ℕ) (h : planner_test n m grid zeros ≡ Accepted) where
+module _ (pl : Planner) (n m : ℕ) (grid : List ℕ) (h : planner_test n m grid zeros ≡ Ok tt) where
   answered : plan_by pl n m grid zeros limit ≡ answer_by pl limit (planned_by pl n m grid)
   unfolding plan_by
   answered = rw h refl

@@ -1,9 +1,10 @@
 -- Document 01, "The bench program": the bytes of the listing of a map file, from the bytes of the file alone; with any of
 -- the planners (document 02, T-05, and the exact one). Assumes nothing.
-use Rattle.std.specs.Prelude.{ℕ, zero, suc, ◌+◌, ◌/◌, ◌%◌, ◌≤◌, ◌≡◌, cond, List, [], ◌∷◌, ◌++◌, ltb, eqb, length, get_or}
+use Rattle.std.specs.Prelude.{ℕ, zero, suc, ◌+◌, ◌/◌, ◌%◌, ◌≤◌, ◌≡◌, cond, List, [], ◌∷◌, ◌++◌, ltb, eqb, length, get_or, Ok, Err}
 use Rattle.array.specs.Place.{row, column, inner}
 use Rattle.array.specs.Buffer.{zeros}
 use Rattle.array.specs.Map.{inner_faulty}
+use Rattle.array.specs.Reason.{number_of}
 use Rattle.array.specs.declared.Refusal.{Refusal}
 use Rattle.paths.specs.Path.{by_direction}
 use Rattle.trials.specs.declared.Outcome.{Outcome}
@@ -15,12 +16,9 @@ use Rattle.repair.specs.Operations.{places_after, across_after, down_after}
 use Rattle.repair.specs.declared.Planner.{Planner}
 use Rattle.repair.specs.declared.Answer.{Answer}
 use Rattle.repair.specs.declared.Answer.TheVariants as answer
-use Rattle.readers.specs.Reading.{read_map}
+use Rattle.readers.specs.Reading.{read_map, MapRead}
 use Rattle.readers.specs.declared.Head.{Head}
-use Rattle.readers.specs.declared.MapRead.{MapRead}
-use Rattle.readers.specs.declared.MapRead.TheVariants as reader
-use Rattle.writers.specs.Writing.{room_test, put}
-use Rattle.writers.specs.declared.FileWritten.{FileWritten}
+use Rattle.writers.specs.Writing.{room_test, put, FileWritten}
 
 -- the bytes f p x of each element x at index p, from i on, one after the other
 unfoldable pub along : (ℕ → ℕ → List ℕ) → ℕ → List ℕ → List ℕ
@@ -132,7 +130,7 @@ decision_lines n m grid directions decision.Beyond = beyond_word ++ newline
 
 -- "refused", number, place
 unfoldable pub refusal_line : Refusal → List ℕ
-refusal_line r = line refused_word (r.number ∷ r.place ∷ []) newline
+refusal_line r = line refused_word (number_of r.reason ∷ r.place ∷ []) newline
 
 -- "map", N, M, all faults
 unfoldable pub head_line : Head → List ℕ
@@ -166,8 +164,8 @@ planned_lines pl head grid = map_lines pl head grid (plan_by pl head.rows head.c
 
 -- a map file, by what the reader answers
 unfoldable pub file_lines : Planner → MapRead × List ℕ → List ℕ
-file_lines pl (reader.File head, grid) = planned_lines pl head grid
-file_lines pl (reader.Refused r, grid) = refusal_line r
+file_lines pl (Ok head, grid) = planned_lines pl head grid
+file_lines pl (Err r, grid) = refusal_line r
 
 -- the listing of a map file
 unfoldable pub listing : Planner → List ℕ → List ℕ
@@ -194,5 +192,5 @@ trial_lines pl head grid =
 -- the statement that a map that was read is planned, never refused: its lines are the first one and those of the planner's answer
 abbrev pub MapsListed : Type 0
 MapsListed =
-    (pl : Planner) (s grid : List ℕ) (head : Head) → read_map s zeros ≡ (reader.File head, grid)
+    (pl : Planner) (s grid : List ℕ) (head : Head) → read_map s zeros ≡ (Ok head, grid)
     → listing pl s ≡ head_line head ++ trial_lines pl head grid

@@ -1,5 +1,6 @@
 -- The check of a list of faults accepts plans and nothing else, and agrees with the check of a direction buffer.
 -- Assumes nothing.
+use Rattle.std.specs.Prelude.{Ok}
 use mathlib.Core.Path.{◌≡◌, sym, ap, ◌∙◌}
 use mathlib.Core.Bool.{true, ◌&&◌}
 use mathlib.Core.List.{List}
@@ -10,8 +11,7 @@ use lib.ListN.{length}
 use Rattle.array.specs.Tests.{or_else}
 use Rattle.array.specs.Buffer.{long}
 use Rattle.array.specs.Map.{well_formed}
-use Rattle.array.specs.declared.Verdict.{Verdict}
-use Rattle.array.specs.declared.Verdict.TheVariants.{Accepted}
+use Rattle.array.specs.Tests.{Verdict}
 use Rattle.array.proofs.Verdicts.{both_accepted, accept_both}
 use Rattle.array.proofs.Formed.{formed, formed_lent, grid_and}
 use Rattle.plans.specs.Faults.{faults, directions_at, paired, directed_faults}
@@ -24,7 +24,7 @@ use Rattle.plans.proofs.Planned.{paths_plan, plan_paths}
 use Rattle.lists.specs.FaultList.{listed_test, check_fault_list, ListCheckAgrees, directions_of, positions_of, ListsPlan, AcceptsLists}
 use Rattle.lists.proofs.Lists.{listed_positions, listed_straight, straight_listed, directions_as_many, paired_of}
 
-passed : {a b : Verdict} (v : Verdict) → a ≡ Accepted → b ≡ Accepted → or_else a (or_else b v) ≡ v
+passed : {a b : Verdict} (v : Verdict) → a ≡ Ok tt → b ≡ Ok tt → or_else a (or_else b v) ≡ v
 passed v h g = rw (h, g)
 
 pub list_check_agrees : ListCheckAgrees
@@ -50,12 +50,12 @@ module _ (n m : ℕ) (grid : List ℕ) (fs : List Fault) where
   as_listed : positions_of fs ≡ faults n m grid → paired (faults n m grid) (directions_of fs) ≡ fs
   as_listed e = ap (λ (l : List ℕ). paired l (directions_of fs)) (sym e) ∙ paired_of fs
 
-  chosen : listed_test (faults n m grid) fs ≡ Accepted → Choice n m grid (directions_of fs)
+  chosen : listed_test (faults n m grid) fs ≡ Ok tt → Choice n m grid (directions_of fs)
   chosen h =
       let e = directions_as_many fs ∙ ap length (listed_positions (faults n m grid) fs h) in
       record { one_each = e; straight = λ k l. listed_straight (faults n m grid) fs h k (omega arith) }
 
-  lists_plan : check_fault_list n m grid fs ≡ Accepted → ListsPlan n m grid fs
+  lists_plan : check_fault_list n m grid fs ≡ Ok tt → ListsPlan n m grid fs
   unfolding check_fault_list
   lists_plan h =
       let a = both_accepted (well_formed n m grid) (or_else (listed_test (faults n m grid) fs) (paths_test n m grid fs)) h in
@@ -67,7 +67,7 @@ module _ (n m : ℕ) (grid : List ℕ) (fs : List Fault) where
         plan = paths_plan n m grid (directions_of fs) (chosen b.0) (ap (paths_test n m grid) (as_listed e) ∙ b.1);
       }
 
-  accepted : ListsPlan n m grid fs → check_fault_list n m grid fs ≡ Accepted
+  accepted : ListsPlan n m grid fs → check_fault_list n m grid fs ≡ Ok tt
   unfolding check_fault_list
   accepted p =
       let e = as_listed p.in_order in

@@ -1,54 +1,28 @@
 -- Lists of faults: the test 4 by index, what it says where it refuses nothing, and that the first 1,024 of a list decide its check.
 -- Assumes nothing.
-use mathlib.Core.Path.{◌≡◌, refl, ap, ◌∙◌}
+use Rattle.std.specs.Prelude.{Ok}
+use mathlib.Core.Path.{◌≡◌, refl, sym, ap, subst, ◌∙◌}
 use mathlib.Core.Bool.{false, not, ◌||◌}
 use mathlib.Core.List.{List, [], ◌∷◌}
 use Prim.Native.Nat.{ℕ, zero, suc, ◌+◌, ◌<◌, ◌≤◌}
 use native.Mathlib.Numerals.{add-one}
 use native.Mathlib.Nat.{le_of_suc-le-suc, not-suc-le-zero}
 use native.Mathlib.Omega.{arith}
-use borrow.Author.Tests.{lt-ltb, le-ltb, ltb-false, eqb-true, eqb-false, eq-eqb, ne_eqb, not-false}
+use borrow.Author.Tests.{le-ltb, ltb-false, eqb-true, eqb-false, eq-eqb, ne_eqb, not-false}
 use lib.Dec.{ltb, eqb}
-use lib.ListN.{length, get_or, take, drop, drop_of_length-le}
-use lib.Seq.{drop-cons, take_all}
+use lib.ListN.{length, get_or, set, take, drop, drop_of_length-le}
+use lib.Seq.{drop-cons, take_all, take-suc, take-suc-set}
 use Rattle.array.specs.Place.{inner}
-use Rattle.array.specs.Map.{well_formed}
 use Rattle.array.specs.Tests.{or_else, refuse}
-use Rattle.array.specs.declared.Verdict.{Verdict}
-use Rattle.array.specs.declared.Verdict.TheVariants.{Accepted, Refused}
+use Rattle.array.specs.Tests.{Verdict}
 use Rattle.array.proofs.Bools.{and_true, or_false, by_lt}
 use Rattle.array.proofs.Places.{inner_holds}
 use Rattle.array.proofs.Verdicts.{both_accepted, accept_both, accepted_false, false_accepted}
-use Rattle.array.proofs.Formed.{formed}
-use Rattle.plans.specs.Faults.{faults, paired}
-use Rattle.plans.specs.Check.{paths_test}
+use Rattle.plans.specs.Faults.{faults, fault, paired}
 use Rattle.plans.specs.Inner.{Starts}
 use Rattle.plans.specs.declared.Fault.{Fault}
 use Rattle.plans.proofs.Facts.{fault_hit, faults_rise}
-use Rattle.lists.specs.FaultList.{lower, wrong_entry, entry_test, listed_test, check_fault_list, positions_of, directions_of}
-
--- r is the lower of p and q
-pub record Lower (p q r : ℕ) : Type 0 where
-  pub left : r ≤ p
-  pub right : r ≤ q
-  pub not_left : r < p → q ≤ r
-  pub not_right : r < q → p ≤ r
-
-pub lower_left : (p q : ℕ) → p < q → lower p q ≡ p
-lower_left p q h = rw (lt-ltb p q h)
-
-pub lower_right : (p q : ℕ) → q ≤ p → lower p q ≡ q
-lower_right p q h = rw (le-ltb p q h)
-
-pub lower_is : (p q r : ℕ) → r ≡ lower p q → Lower p q r
-lower_is p q r e =
-    by_lt p q
-    (λ h.
-    let x : r ≡ p = e ∙ lower_left p q h in
-    record { left = omega arith; right = omega arith; not_left = λ l. omega arith; not_right = λ l. omega arith })
-    (λ h.
-    let x : r ≡ q = e ∙ lower_right p q h in
-    record { left = omega arith; right = omega arith; not_left = λ l. omega arith; not_right = λ l. omega arith })
+use Rattle.lists.specs.FaultList.{lower, wrong_entry, entry_test, listed_test, positions_of, directions_of, FaultStarts}
 
 -- The test 4 by index: what is left of it from index k on.
 abbrev pub listed_from : List ℕ → List Fault → ℕ → Verdict
@@ -68,7 +42,12 @@ module _ (ps : List ℕ) (fs : List Fault) (x : Fault) (k : ℕ) where
   unfolding listed_test
   listed_beyond h l = rw (drop_of_length-le ps h, drop-cons fs k x l)
 
-pub listed_end : (ps : List ℕ) (fs : List Fault) (k : ℕ) → length ps ≤ k → length fs ≤ k → listed_from ps fs k ≡ Accepted
+-- the same where the two of the k-th pair are named
+pub pair_turn : (ps : List ℕ) (fs : List Fault) (k : ℕ) {p : ℕ} {f : Fault} → k < length ps → k < length fs
+    → p ≡ get_or ps k 0 → f ≡ get_or fs k (fault 0 0) → listed_from ps fs k ≡ or_else (entry_test p f) (listed_from ps fs (k + 1))
+pair_turn ps fs k h l e g = rw (e, g) (listed_turn ps fs (fault 0 0) k h l)
+
+pub listed_end : (ps : List ℕ) (fs : List Fault) (k : ℕ) → length ps ≤ k → length fs ≤ k → listed_from ps fs k ≡ Ok tt
 unfolding listed_test
 listed_end ps fs k h l = rw (drop_of_length-le ps h, drop_of_length-le fs l)
 
@@ -92,15 +71,15 @@ entry_right p q d e l h =
     rw (a, b, le-ltb 4 d h)
 
 -- a listed fault that passes 4
-entry_passes : (p : ℕ) (ps : List ℕ) (f : Fault) (fs : List Fault) → listed_test (p ∷ ps) (f ∷ fs) ≡ Accepted
-    → RightEntry p f.position f.direction × (listed_test ps fs ≡ Accepted)
+entry_passes : (p : ℕ) (ps : List ℕ) (f : Fault) (fs : List Fault) → listed_test (p ∷ ps) (f ∷ fs) ≡ Ok tt
+    → RightEntry p f.position f.direction × (listed_test ps fs ≡ Ok tt)
 unfolding listed_test
 entry_passes p ps f fs h =
     let a = both_accepted (entry_test p f) (listed_test ps fs) h in
     (right_entry p f.position f.direction (accepted_false (wrong_entry p f.position f.direction) 4 (lower p f.position) 0 a.0), a.1)
 
 -- a list that passes 4 has the inner faults' positions and as many directions, each 1 to 4; and such a list passes
-pub listed_positions : (ps : List ℕ) (fs : List Fault) → listed_test ps fs ≡ Accepted → positions_of fs ≡ ps
+pub listed_positions : (ps : List ℕ) (fs : List Fault) → listed_test ps fs ≡ Ok tt → positions_of fs ≡ ps
 unfolding listed_test
 listed_positions [] [] h = refl
 listed_positions [] (f ∷ fs) h = let z : ◌≡◌ {A = ℕ} 0 1 = cc in absurd (omega arith)
@@ -109,7 +88,7 @@ listed_positions (p ∷ ps) (f ∷ fs) h =
     let a = entry_passes p ps f fs h in
     rw (a.0.same, listed_positions ps fs a.1)
 
-pub listed_straight : (ps : List ℕ) (fs : List Fault) → listed_test ps fs ≡ Accepted → (k : ℕ) → k < length ps
+pub listed_straight : (ps : List ℕ) (fs : List Fault) → listed_test ps fs ≡ Ok tt → (k : ℕ) → k < length ps
     → (1 ≤ get_or (directions_of fs) k 0) × (get_or (directions_of fs) k 0 ≤ 4)
 unfolding listed_test
 listed_straight [] fs h k l = absurd (not-suc-le-zero l)
@@ -118,7 +97,7 @@ listed_straight (p ∷ ps) (f ∷ fs) h zero l = let a = (entry_passes p ps f fs
 listed_straight (p ∷ ps) (f ∷ fs) h (suc k) l = listed_straight ps fs (entry_passes p ps f fs h).1 k (le_of_suc-le-suc l)
 
 pub straight_listed : (ps ds : List ℕ) → length ds ≡ length ps
-    → ((k : ℕ) → k < length ps → (1 ≤ get_or ds k 0) × (get_or ds k 0 ≤ 4)) → listed_test ps (paired ps ds) ≡ Accepted
+    → ((k : ℕ) → k < length ps → (1 ≤ get_or ds k 0) × (get_or ds k 0 ≤ 4)) → listed_test ps (paired ps ds) ≡ Ok tt
 unfolding listed_test paired
 straight_listed [] ds e h = refl
 straight_listed (p ∷ ps) [] e h = absurd (omega arith)
@@ -141,20 +120,41 @@ unfolding paired
 paired_of [] = refl
 paired_of (f ∷ fs) = ap (λ (l : List Fault). f ∷ l) (paired_of fs)
 
-pub of_paired : (ps ds : List ℕ) → length ds ≡ length ps → (positions_of (paired ps ds) ≡ ps) × (directions_of (paired ps ds) ≡ ds)
-unfolding paired
-of_paired [] [] e = (refl, refl)
-of_paired [] (d ∷ ds) e = absurd (omega arith)
-of_paired (p ∷ ps) [] e = absurd (omega arith)
-of_paired (p ∷ ps) (d ∷ ds) e =
-    let a = of_paired ps ds (omega arith) in
-    (ap (λ (l : List ℕ). p ∷ l) a.0, ap (λ (l : List ℕ). d ∷ l) a.1)
+pub directions_length : (fs : List Fault) → length (directions_of fs) ≡ length fs
+directions_length fs = directions_as_many fs ∙ positions_length fs
+
+direction_there : (fs : List Fault) (k : ℕ) (x : Fault) → k < length fs → get_or (directions_of fs) k 0 ≡ (get_or fs k x).direction
+direction_there [] k x h = absurd (not-suc-le-zero h)
+direction_there (f ∷ fs) zero x h = refl
+direction_there (f ∷ fs) (suc k) x h = direction_there fs k x (le_of_suc-le-suc h)
+
+-- one direction more is written
+pub directions_more : (fs : List Fault) (xs : List ℕ) (k : ℕ) (x : Fault) → k < length fs → k < length xs
+    → take k xs ≡ take k (directions_of fs) → take (k + 1) (set xs k (get_or fs k x).direction) ≡ take (k + 1) (directions_of fs)
+directions_more fs xs k x h l e =
+    rw (add-one k, take-suc-set xs k (get_or fs k x).direction l, e, ← direction_there fs k x h)
+    (sym (take-suc (directions_of fs) k 0 (omega (arith, directions_length fs))))
+
+-- all of them are
+pub all_written : (fs : List Fault) (xs : List ℕ) (k : ℕ) → length fs ≤ k → k ≤ length fs
+    → take k xs ≡ take k (directions_of fs) → take (length fs) xs ≡ directions_of fs
+all_written fs xs k h l e =
+    let z : k ≡ length fs = omega arith in
+    subst (λ (j : ℕ). take j xs ≡ take j (directions_of fs)) z e
+    ∙ take_all (length fs) (directions_of fs) (omega (arith, directions_length fs))
+
+-- a list that passes is its positions with its directions
+pub listed_paired : (ps : List ℕ) (fs : List Fault) → listed_test ps fs ≡ Ok tt → paired ps (directions_of fs) ≡ fs
+listed_paired ps fs h = ap (λ (l : List ℕ). paired l (directions_of fs)) (sym (listed_positions ps fs h)) ∙ paired_of fs
 
 -- the paths' tests may begin at a list that passes 4
-pub list_starts : (n m : ℕ) (grid : List ℕ) (fs : List Fault) → n ≤ 30 → m ≤ 30 → listed_test (faults n m grid) fs ≡ Accepted
-    → Starts n m (faults n m grid) (directions_of fs)
-list_starts n m grid fs a b h =
-    record {
+pub list_starts : (n m : ℕ) (grid : List ℕ) {starts : List ℕ} → n ≤ 30 → m ≤ 30 → FaultStarts n m grid starts → (fs : List Fault)
+    → listed_test starts fs ≡ Ok tt → Starts n m starts (directions_of fs)
+list_starts n m grid a b s fs h =
+    rw s (starts_of (rw s at h))
+  where
+    starts_of : listed_test (faults n m grid) fs ≡ Ok tt → Starts n m (faults n m grid) (directions_of fs)
+    starts_of h = record {
       same = directions_as_many fs ∙ ap length (listed_positions (faults n m grid) fs h);
       each = λ k l.
           let x = fault_hit n m grid k l in
@@ -163,7 +163,7 @@ list_starts n m grid fs a b h =
       ascend = faults_rise n m grid;
     }
 
--- The first 1,024 decide: an inner fault does not stand at 0, so there are fewer.
+-- There are fewer than 1,024 inner faults, since none stands at 0.
 fault_above : (n m : ℕ) (grid : List ℕ) (k : ℕ) → k < length (faults n m grid) → k < get_or (faults n m grid) k 0
 fault_above n m grid zero h =
     let p = get_or (faults n m grid) 0 0 in
@@ -177,26 +177,10 @@ faults_few n m grid e =
     by_lt (length (faults n m grid)) 1024 (λ h. h)
     (λ h. absurd (omega (arith, fault_above n m grid 1023 (omega arith), (fault_hit n m grid 1023 (omega arith)).below)))
 
-listed_take : (k : ℕ) (ps : List ℕ) (fs : List Fault) → length ps < k → listed_test ps (take k fs) ≡ listed_test ps fs
-unfolding listed_test
-listed_take zero ps fs h = absurd (not-suc-le-zero h)
-listed_take (suc k) [] [] h = refl
-listed_take (suc k) [] (f ∷ fs) h = refl
-listed_take (suc k) (p ∷ ps) [] h = refl
-listed_take (suc k) (p ∷ ps) (f ∷ fs) h = ap (or_else (entry_test p f)) (listed_take k ps fs (le_of_suc-le-suc h))
+-- a list that passes 4 has as many faults as the map, fewer than 1,024
+pub listed_as_many : (ps : List ℕ) (fs : List Fault) → listed_test ps fs ≡ Ok tt → length fs ≡ length ps
+listed_as_many ps fs h = sym (positions_length fs) ∙ ap length (listed_positions ps fs h)
 
-later_same : (t a b : Verdict) → (t ≡ Accepted → a ≡ b) → or_else t a ≡ or_else t b
-later_same Accepted a b h = h refl
-later_same (Refused r) a b h = refl
-
-pub check_take : (n m : ℕ) (grid : List ℕ) (fs : List Fault) → check_fault_list n m grid (take 1024 fs) ≡ check_fault_list n m grid fs
-unfolding check_fault_list
-check_take n m grid fs =
-    later_same (well_formed n m grid) _ _
-    (λ h.
-    let few = faults_few n m grid (formed n m grid h).length_is in
-    ap (λ (v : Verdict). or_else v (paths_test n m grid (take 1024 fs))) (listed_take 1024 (faults n m grid) fs few)
-    ∙ later_same (listed_test (faults n m grid) fs) _ _
-    (λ l.
-    let e = ap length (listed_positions (faults n m grid) fs l) in
-    ap (paths_test n m grid) (take_all 1024 fs (omega (arith, e, positions_length fs)))))
+pub starts_few : (n m : ℕ) (grid : List ℕ) {starts : List ℕ} → length grid ≡ 1024 → FaultStarts n m grid starts
+    → length starts < 1024
+starts_few n m grid e s = omega (arith, ap length s, faults_few n m grid e)

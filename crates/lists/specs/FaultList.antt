@@ -1,11 +1,10 @@
 -- Document 01, "Language forms by place": the plan check of a list of faults, which stands for the direction buffer.
 -- Assumes nothing.
-use Rattle.std.specs.Prelude.{ℕ, ◌≤◌, ◌≡◌, Bool, cond, not, ◌||◌, ◌↔◌, List, [], ◌∷◌, ltb, eqb, length, take}
+use Rattle.std.specs.Prelude.{ℕ, ◌≡◌, Bool, cond, not, ◌||◌, ◌↔◌, List, [], ◌∷◌, ltb, eqb, length, Ok}
 use Rattle.array.specs.Tests.{or_else, refuse, refuse_if}
 use Rattle.array.specs.Map.{well_formed}
-use Rattle.array.specs.declared.Verdict.{Verdict}
-use Rattle.array.specs.declared.Verdict.TheVariants.{Accepted}
-use Rattle.plans.specs.Faults.{faults, paired, directed_faults}
+use Rattle.array.specs.Tests.{Verdict}
+use Rattle.plans.specs.Faults.{faults, directed_faults}
 use Rattle.plans.specs.Plan.{Plan}
 use Rattle.plans.specs.Check.{directions_test, paths_test, check_plan}
 use Rattle.plans.specs.declared.Fault.{Fault}
@@ -23,7 +22,7 @@ entry_test p f = refuse_if (wrong_entry p f.position f.direction) 4 (lower p f.p
 
 -- 4 of a list: it is to be the inner faults in row order, each with a direction. At a fault that is missing or too many, its position.
 unfoldable pub listed_test : List ℕ → List Fault → Verdict
-listed_test [] [] = Accepted
+listed_test [] [] = Ok tt
 listed_test [] (f ∷ fs) = refuse 4 f.position 0
 listed_test (p ∷ ps) [] = refuse 4 p 0
 listed_test (p ∷ ps) (f ∷ fs) = or_else (entry_test p f) (listed_test ps fs)
@@ -39,8 +38,8 @@ check_fault_list n m grid fs = or_else (well_formed n m grid) (list_tests n m gr
 -- where 1 to 4 accept a direction buffer, both checks of its plan give one answer
 abbrev pub ListCheckAgrees : Type 0
 ListCheckAgrees =
-    (n m : ℕ) (grid directions : List ℕ) → well_formed n m grid ≡ Accepted → length directions ≡ 1024
-    → directions_test n m grid directions ≡ Accepted
+    (n m : ℕ) (grid directions : List ℕ) → well_formed n m grid ≡ Ok tt → length directions ≡ 1024
+    → directions_test n m grid directions ≡ Ok tt
     → check_fault_list n m grid (directed_faults n m grid directions) ≡ check_plan n m grid directions
 
 -- the positions and the directions of a list of faults
@@ -54,21 +53,14 @@ directions_of (f ∷ fs) = f.direction ∷ directions_of fs
 
 -- a list is a plan: on a well-formed map it has the inner faults in row order, and its directions are one
 pub record ListsPlan (n m : ℕ) (grid : List ℕ) (fs : List Fault) : Type 0 where
-  pub map : well_formed n m grid ≡ Accepted
+  pub map : well_formed n m grid ≡ Ok tt
   pub in_order : positions_of fs ≡ faults n m grid
   pub plan : Plan n m grid (directions_of fs)
 
 -- the check accepts these and nothing else
 abbrev pub AcceptsLists : Type 0
-AcceptsLists = (n m : ℕ) (grid : List ℕ) (fs : List Fault) → (check_fault_list n m grid fs ≡ Accepted) ↔ ListsPlan n m grid fs
+AcceptsLists = (n m : ℕ) (grid : List ℕ) (fs : List Fault) → (check_fault_list n m grid fs ≡ Ok tt) ↔ ListsPlan n m grid fs
 
--- the faults that the first k elements of two arrays hold
-abbrev pub held : List ℕ → List ℕ → ℕ → List Fault
-held positions directions k = paired (take k positions) (take k directions)
-
--- sizes and a grid as after tests 1 and 2, and its inner faults in row order
-pub record FaultStarts (n m : ℕ) (grid starts : List ℕ) : Type 0 where
-  pub rows : n ≤ 30
-  pub columns : m ≤ 30
-  pub grid_long : length grid ≡ 1024
-  pub in_order : starts ≡ faults n m grid
+-- these are the inner faults in row order
+abbrev pub FaultStarts : ℕ → ℕ → List ℕ → List ℕ → Type 0
+FaultStarts n m grid starts = starts ≡ faults n m grid

@@ -1,11 +1,11 @@
 -- What the clash of two paths says of them: clear exactly where they neither meet nor are a near-miss, whichever is named first.
 -- Assumes nothing.
+use Rattle.std.specs.Prelude.{Ok}
 use mathlib.Core.Path.{◌≡◌, refl, ap₂}
 use mathlib.Core.Bool.{Bool, true, false, cond, ◌||◌, or_comm, true≢false, false≢true}
 use mathlib.Core.Logic.{◌⊎◌, inl, inr}
 use Prim.Native.Nat.{ℕ}
 use native.Mathlib.Omega.{arith}
-use Rattle.array.specs.declared.Verdict.TheVariants.{Accepted}
 use Rattle.array.proofs.Bools.{bool_ext}
 use Rattle.paths.specs.Path.{Clash, Clear, Meet, NearMiss, path, meet, south_north, east_west, near_miss, clash, is_clear, clear, refuse_clash, pair_test}
 use Rattle.paths.proofs.Meeting.{share_elim, share_intro}
@@ -37,20 +37,20 @@ module _ (n m p d q e : ℕ) where
       by false true h = inr refl
       by false false h = absurd (true≢false h)
 
-  pub accepted_clear : pair_test n m p d q e ≡ Accepted → clear n m p d q e ≡ true
+  pub accepted_clear : pair_test n m p d q e ≡ Ok tt → clear n m p d q e ≡ true
   unfolding clear pair_test
   accepted_clear h = by (clash n m p d q e) h
     where
-      by : (c : Clash) → refuse_clash p q c ≡ Accepted → is_clear c ≡ true
+      by : (c : Clash) → refuse_clash p q c ≡ Ok tt → is_clear c ≡ true
       by Clear h = refl
       by Meet h = let z : ◌≡◌ {A = ℕ} 0 1 = cc in absurd (omega arith)
       by NearMiss h = let z : ◌≡◌ {A = ℕ} 0 1 = cc in absurd (omega arith)
 
-  pub clear_accepted : clear n m p d q e ≡ true → pair_test n m p d q e ≡ Accepted
+  pub clear_accepted : clear n m p d q e ≡ true → pair_test n m p d q e ≡ Ok tt
   unfolding clear pair_test
   clear_accepted h = by (clash n m p d q e) h
     where
-      by : (c : Clash) → is_clear c ≡ true → refuse_clash p q c ≡ Accepted
+      by : (c : Clash) → is_clear c ≡ true → refuse_clash p q c ≡ Ok tt
       by Clear h = refl
       by Meet h = absurd (false≢true h)
       by NearMiss h = absurd (false≢true h)

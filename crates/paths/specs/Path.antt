@@ -1,13 +1,12 @@
 -- Document 01, "Paths and plans", and document 02, T-04: a path is given by the position p of its fault and its direction d.
 -- It is the compensation path of Kung, Jean and Chang, "Fault-Tolerant Array Processors Using Single-Track Switches", whose
 -- reconfigurability theorem asks for open paths that neither meet nor nearly miss. Assumes nothing.
-use Rattle.std.specs.Prelude.{ℕ, ◌+◌, ◌-◌, ◌*◌, ◌≤◌, ◌≡◌, Bool, true, false, cond, not, ◌&&◌, ◌||◌, List, [], ◌∷◌, ltb, eqb, drop}
+use Rattle.std.specs.Prelude.{ℕ, ◌+◌, ◌-◌, ◌*◌, ◌≤◌, ◌≡◌, Bool, true, false, cond, not, ◌&&◌, ◌||◌, List, [], ◌∷◌, ltb, eqb, drop, Ok}
 use Rattle.array.specs.Place.{row, column, inner}
 use Rattle.array.specs.Buffer.{tabulate}
 use Rattle.array.specs.Map.{faulty, dead}
 use Rattle.array.specs.Tests.{refuse}
-use Rattle.array.specs.declared.Verdict.{Verdict}
-use Rattle.array.specs.declared.Verdict.TheVariants.{Accepted}
+use Rattle.array.specs.Tests.{Verdict}
 
 -- a choice by a direction byte, 1 to 4 in this order, and what stands for any other number
 abbrev pub by_direction : {A : Type 0} → ℕ → A → A → A → A → A → A
@@ -96,7 +95,7 @@ clear n m p d q e = is_clear (clash n m p d q e)
 
 -- 6 of two that meet, 7 of a near-miss, with both starts
 abbrev pub refuse_clash : ℕ → ℕ → Clash → Verdict
-refuse_clash p q Clear = Accepted
+refuse_clash p q Clear = (Ok tt)
 refuse_clash p q Meet = refuse 6 p q
 refuse_clash p q NearMiss = refuse 7 p q
 

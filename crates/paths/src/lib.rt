@@ -6,7 +6,7 @@ ghost use Rattle.paths.specs.Path.{ahead, path_length, is_free, from_rim, is_ope
 ghost use Rattle.paths.specs.Table.{class, entry, byte_of, ClashTable, TableAgrees};
 ghost use Rattle.paths.specs.Inner.{clash_of, PathAt};
 
-use array::{Refusal, Verdict};
+use array::{Reason, Refusal, Shape, Verdict};
 use table::CLASHES;
 
 mod table;
@@ -16,72 +16,79 @@ pub const CLEAR: u8 = 0;
 
 const MEET: u8 = 1;
 
-// How many processors a path has.
-pub fn length_of(n: usize, m: usize, p: usize, d: u8) -> usize
-    requires { Start n m p d }
-    ensures { result ≡ path_length n m p d }
-{
-    let x = p / 32;
-    let y = p % 32;
-    match d {
-        1 => n + 2 - x,
-        2 => x + 1,
-        3 => m + 2 - y,
-        _ => y + 1,
-    }
+// A path: where it starts, an inner position of an array of this shape, and its direction.
+#[derive(Clone, Copy)]
+pub struct Path {
+    pub shape: Shape,
+    pub start: usize,
+    pub direction: u8,
+    pub ghost starts: { Start shape.rows shape.columns start direction },
 }
 
-// The k-th processor of a path, its start being the 0th.
-pub fn step_ahead(n: usize, m: usize, p: usize, d: u8, k: usize) -> usize
-    requires { Start n m p d × (k < path_length n m p d) }
-    ensures { (result ≡ ahead p d k) × (result < 1024) }
-{
-    match d {
-        1 => p + 32 * k,
-        2 => p - 32 * k,
-        3 => p + k,
-        _ => p - k,
-    }
-}
-
-// Whether a path runs across the whole array.
-fn is_from_rim(n: usize, m: usize, p: usize, d: u8) -> bool
-    requires { Start n m p d }
-    ensures { result ≡ from_rim n m p d }
-{
-    let x = p / 32;
-    let y = p % 32;
-    match d {
-        1 => x == 1,
-        2 => x == n,
-        3 => y == 1,
-        _ => y == m,
-    }
-}
-
-// Whether no processor after the start is faulty.
-fn is_free(n: usize, m: usize, grid: &[u8], p: usize, d: u8) -> bool
-    requires { Start n m p d × (length grid.now ≡ 1024) }
-    ensures { result ≡ is_free n m grid.now p d }
-{
-    let count = length_of(n, m, p, d);
-    for k in 1..count {
-        if array::is_faulty(grid[step_ahead(n, m, p, d, k)]) {
-            return false;
+impl Path {
+    // How many processors the path has.
+    pub fn length(self) -> usize
+        ensures { result ≡ path_length self.shape.rows self.shape.columns self.start self.direction }
+    {
+        let x = self.start / 32;
+        let y = self.start % 32;
+        match self.direction {
+            1 => self.shape.rows + 2 - x,
+            2 => x + 1,
+            3 => self.shape.columns + 2 - y,
+            _ => y + 1,
         }
     }
-    true
-}
 
-// Whether a path is open: from a dead processor it runs across the whole array, and no processor after the start is faulty.
-pub fn is_open(n: usize, m: usize, grid: &[u8], p: usize, d: u8) -> bool
-    requires { Start n m p d × (length grid.now ≡ 1024) }
-    ensures { result ≡ is_open n m grid.now p d }
-{
-    if array::is_dead(grid[p]) & !is_from_rim(n, m, p, d) {
-        return false;
+    // The k-th processor of the path, its start being the 0th.
+    pub fn step(self, k: usize) -> usize
+        requires { k < path_length self.shape.rows self.shape.columns self.start self.direction }
+        ensures { (result ≡ ahead self.start self.direction k) × (result < 1024) }
+    {
+        match self.direction {
+            1 => self.start + 32 * k,
+            2 => self.start - 32 * k,
+            3 => self.start + k,
+            _ => self.start - k,
+        }
     }
-    is_free(n, m, grid, p, d)
+
+    // Whether the path runs across the whole array.
+    fn is_from_rim(self) -> bool
+        ensures { result ≡ from_rim self.shape.rows self.shape.columns self.start self.direction }
+    {
+        let x = self.start / 32;
+        let y = self.start % 32;
+        match self.direction {
+            1 => x == 1,
+            2 => x == self.shape.rows,
+            3 => y == 1,
+            _ => y == self.shape.columns,
+        }
+    }
+
+    // Whether no processor after the start is faulty.
+    fn is_free(self, grid: &[u8; 1024]) -> bool
+        ensures { result ≡ is_free self.shape.rows self.shape.columns grid.now self.start self.direction }
+    {
+        let count = self.length();
+        for k in 1..count {
+            if array::is_faulty(grid[self.step(k)]) {
+                return false;
+            }
+        }
+        true
+    }
+
+    // Whether the path is open: from a dead processor it runs across the whole array, and no processor after the start is faulty.
+    pub fn is_open(self, grid: &[u8; 1024]) -> bool
+        ensures { result ≡ is_open self.shape.rows self.shape.columns grid.now self.start self.direction }
+    {
+        if array::is_dead(grid[self.start]) & !self.is_from_rim() {
+            return false;
+        }
+        self.is_free(grid)
+    }
 }
 
 // The clash table, for a caller to lend: a constant is written out anew wherever it is named.
@@ -121,14 +128,14 @@ pub fn check_clash(found: u8, p: usize, q: usize) -> Verdict
     ensures { result ≡ refuse_clash p q (clash_of found) }
 {
     match found {
-        CLEAR => Verdict::Accepted,
-        MEET => Verdict::Refused(Refusal {
-            number: 6,
+        CLEAR => Ok(()),
+        MEET => Err(Refusal {
+            reason: Reason::Meeting,
             place: p,
             second: q,
         }),
-        _ => Verdict::Refused(Refusal {
-            number: 7,
+        _ => Err(Refusal {
+            reason: Reason::NearMiss,
             place: p,
             second: q,
         }),

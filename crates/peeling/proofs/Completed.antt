@@ -1,5 +1,6 @@
 -- The direction buffer of the settled faults and of those that the trials then found.
 -- Assumes nothing.
+use Rattle.std.specs.Prelude.{Ok}
 use Prim.Native.Nat.{ℕ, ◌<◌}
 use mathlib.Core.Path.{◌≡◌, refl, sym, ap, subst, ◌∙◌}
 use mathlib.Core.Bool.{Bool, true, false, cond, false≢true}
@@ -11,7 +12,6 @@ use lib.ListN.{length, get_or}
 use lib.Seq.{ext_get_or}
 use Rattle.array.specs.Place.{inner}
 use Rattle.array.specs.Map.{inner_fault, well_formed}
-use Rattle.array.specs.declared.Verdict.TheVariants.{Accepted}
 use Rattle.array.proofs.Bools.{and_true}
 use Rattle.array.proofs.Fills.{tabulate_length, tabulate_at}
 use Rattle.array.proofs.Formed.{formed}
@@ -86,7 +86,7 @@ module _ (n m : ℕ) (grid : List ℕ) where
       (kept_settled (inner_fault n m grid) (is_open n m grid) r.peeled)
 
   -- what the trials over the rest give
-  pub completes_on : well_formed n m grid ≡ Accepted
+  pub completes_on : well_formed n m grid ≡ Ok tt
       → Completes (inner_fault n m grid) (is_open n m grid) (clear n m) (direction_of kept) kept ps
   completes_on map =
       let s = (formed n m grid map).sizes in
@@ -96,7 +96,7 @@ module _ (n m : ℕ) (grid : List ℕ) where
       keeps_on (left_lists n m grid kept)
 
   -- Of a well-formed map, where the trials find these directions.
-  module _ (map : well_formed n m grid ≡ Accepted) (k : ℕ) (xs : List ℕ) (e : quick_planned n m grid ≡ found k xs) where
+  module _ (map : well_formed n m grid ≡ Ok tt) (k : ℕ) (xs : List ℕ) (e : quick_planned n m grid ≡ found k xs) where
     long : length grid ≡ 1024
     long = (formed n m grid map).length_is
 

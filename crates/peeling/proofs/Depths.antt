@@ -1,6 +1,6 @@
 -- Depths order positions as the sides do, and the least depth of a list decides which of its positions lie outermost.
 -- Assumes nothing.
-use Prim.Native.Nat.{ℕ, suc, ◌+◌, ◌≤◌, ◌<◌}
+use Prim.Native.Nat.{ℕ, suc, ◌+◌, ◌≤◌, ◌<◌, min}
 use mathlib.Core.Path.{◌≡◌, refl, sym, ap, ◌∙◌}
 use mathlib.Core.Bool.{Bool, true, ◌&&◌}
 use mathlib.Core.List.{List, [], ◌∷◌}
@@ -71,18 +71,11 @@ by_depth least opens e f = ap (λ (t : Bool). t && opens) (sym f ∙ ap (λ (z :
 pub least_start : (d : ℕ) (ps : List ℕ) → Least d ps 0 31
 least_start d ps = record { low = λ i h. absurd (omega arith); greatest = λ b h l. h }
 
--- a turn, where the k-th depth is x, and `next` the number kept
-module _ {d : ℕ} {ps : List ℕ} {k least : ℕ} (s : Least d ps k least) {x next : ℕ} (e : x ≡ depth d (get_or ps k 0)) where
-  pub least_less : x < least → next ≡ x → Least d ps (k + 1) next
-  least_less h f =
-      record {
-        low = below_more _ k (λ i l. omega (arith, s.low i l)) (omega arith);
-        greatest = λ b a l. omega (arith, l k (omega arith));
-      }
-
-  pub least_same : least ≤ x → next ≡ least → Least d ps (k + 1) next
-  least_same h f =
-      record {
-        low = below_more _ k (λ i l. omega (arith, s.low i l)) (omega arith);
-        greatest = λ b a l. omega (arith, s.greatest b a (λ i m. l i (omega arith)));
-      }
+-- a turn, where the k-th depth is x
+pub least_turn : {d : ℕ} {ps : List ℕ} {k least x : ℕ} → Least d ps k least → x ≡ depth d (get_or ps k 0)
+    → Least d ps (k + 1) (min least x)
+least_turn {k = k} s e =
+    record {
+      low = below_more _ k (λ i l. omega (arith, s.low i l)) (omega arith);
+      greatest = λ b a l. omega (arith, s.greatest b a (λ i m. l i (omega arith)), l k (omega arith));
+    }

@@ -44,6 +44,11 @@ module _ (held ways old : List ℕ) where
             (λ e. rw (ne_eqb p v e, get_or-set_other new v p x 0 e) (s.front p h)));
       }
 
+  -- the same, by what was read of the k-th
+  pub over_turn : (k : ℕ) {new : List ℕ} {p d : ℕ} → Over held ways old k new → get_or held k 0 < 1024
+      → p ≡ get_or held k 0 → d ≡ get_or ways k 0 → Over held ways old (k + 1) (set new p d)
+  over_turn k s low e f = rw (e, f) (over_step k s low)
+
   pub over_end : (k : ℕ) {new : List ℕ} → Over held ways old k new → k ≡ length held
       → new ≡ buffer (direction_over (held_with held ways) old)
   over_end k s e = fill_end s (omega arith) ∙ ap (λ (i : ℕ). buffer (direction_over (kept_in held ways i) old)) e

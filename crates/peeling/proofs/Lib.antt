@@ -1,3 +1,4 @@
+pub mod Fields
 pub mod Outward
 pub mod Exchange
 pub mod Picking

@@ -1,11 +1,13 @@
 -- The parts of the quick planner put together: the settled faults, the search over the rest, and the direction buffer.
 -- Assumes nothing.
+use Rattle.peeling.specs.declared.Settled.{Settled}
+use Rattle.peeling.proofs.Fields.{of_length, of_take}
 use Prim.Native.Nat.{ℕ, ◌-◌, ◌≤◌, ◌<◌}
-use mathlib.Core.Path.{◌≡◌, ap, sym, subst, ◌∙◌}
+use mathlib.Core.Path.{◌≡◌, refl, ap, sym, subst, ◌∙◌}
 use mathlib.Core.List.{List, [], ◌++◌}
 use native.Mathlib.Omega.{arith}
 use lib.ListN.{length, take, length-append}
-use lib.Seq.{get_or-take, length-take-le, take-append-le}
+use lib.Seq.{length-take-le, take-append-le}
 use Rattle.plans.specs.declared.Fault.{Fault}
 use Rattle.trials.specs.Search.{searched, outcome, directions_written}
 use Rattle.trials.specs.Inner.{kept_in, Searchable, Holds, finished}
@@ -13,7 +15,7 @@ use Rattle.trials.specs.declared.Outcome.{Outcome}
 use Rattle.trials.proofs.Looping.{kept_same}
 use Rattle.trials.proofs.Writing.{first_written}
 use Rattle.peeling.specs.Peel.{peeled_on, unpeeled_on, quick_planned}
-use Rattle.peeling.specs.Inner.{Split, held_with, Writable, completed_by}
+use Rattle.peeling.specs.Inner.{Split, positions, directions, held_faults, Positions, completed_by}
 use Rattle.peeling.proofs.Looping.{left_searchable}
 use Rattle.peeling.proofs.Held.{completed_written}
 use Rattle.peeling.proofs.Unhindered.{unhindered_on}
@@ -48,26 +50,24 @@ module _ {n m : ℕ} {grid left held ways : List ℕ} {settled : ℕ} (s : Split
     starts_searchable a b g =
         subst (Searchable n m grid) (sym starts_are) (left_searchable n m grid a b g (peeled_on n m grid))
 
-  -- The settled faults, in front of longer buffers.
-  module _ (room : settled ≤ length held) where
-    pub held_writable : (directions : List ℕ) → settled ≤ length ways → length directions ≡ 1024
-        → Writable (take settled held) (take settled ways) directions
-    held_writable directions h g =
-        let l = length-take-le settled held room in
-        record {
-          paired = omega (arith, l, length-take-le settled ways h);
-          places = λ i a.
-              let z : i < settled = omega (arith, l) in
-              omega (arith, get_or-take settled held i 0 z, s.below i z);
-          long = g;
-        }
+-- The settled faults, in front of a longer array.
+module _ {n m : ℕ} {grid left : List ℕ} (held : List Settled) {settled : ℕ}
+    (s : Split n m grid left (positions held) (directions held) settled) (room : settled ≤ length held) where
+  as_many : length (positions (take settled held)) ≡ settled
+  as_many = of_length (λ (f : Settled). f.position) refl (take settled held) ∙ length-take-le settled held room
 
-    pub held_are : held_with (take settled held) (take settled ways) ≡ peeled_on n m grid
-    held_are =
-        ap (kept_in (take settled held) (take settled ways)) (length-take-le settled held room)
-        ∙ kept_same (take settled held) held (take settled ways) ways settled (λ i h. get_or-take settled held i 0 h)
-        (λ i h. get_or-take settled ways i 0 h)
-        ∙ s.kept
+  pub held_low : Positions (positions (take settled held))
+  held_low i a =
+      let z : i < settled = omega (arith, as_many) in
+      omega (arith, of_take (λ (f : Settled). f.position) refl held settled i z, s.below i z)
+
+  pub held_are : held_faults (take settled held) ≡ peeled_on n m grid
+  held_are =
+      ap (kept_in (positions (take settled held)) (directions (take settled held))) as_many
+      ∙ kept_same _ (positions held) _ (directions held) settled
+      (of_take (λ (f : Settled). f.position) refl held settled)
+      (of_take (λ (f : Settled). f.direction) refl held settled)
+      ∙ s.kept
 
 -- What the parts have answered and written.
 module _ (n m : ℕ) (grid starts : List ℕ) (kept : List Fault) (limit k : ℕ) (chosen found_in directions : List ℕ)

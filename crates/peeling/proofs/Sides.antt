@@ -26,6 +26,12 @@ module _ (opens : ℕ → ℕ → Bool) (left : List ℕ) (d : ℕ) where
   outward_by least k w below s h =
       ap (λ (b : Bool). b && opens (get_or left k 0) d) (sym (outermost_least d left least k w below s h))
 
+  -- the same of a position p that the list holds there, by what was answered of it
+  pub outward_asked : (least k : ℕ) {p : ℕ} {r : Bool} → Way d → Positions left → Least d left (length left) least → k < length left
+      → p ≡ get_or left k 0 → r ≡ (eqb (depth d p) least && opens p d) → r ≡ outward k
+  outward_asked least k w below s h e q =
+      q ∙ ap (λ (x : ℕ). eqb (depth d x) least && opens x d) e ∙ outward_by least k w below s h
+
   -- the invariant of the loop along the side: none of the first k does
   pub record Along (k : ℕ) : Type 0 where
     pub within : k ≤ length left

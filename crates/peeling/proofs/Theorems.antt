@@ -1,12 +1,12 @@
 -- Settling outer faults first loses no plan, and the quick planner finds one exactly where there is one.
 -- Assumes nothing.
+use Rattle.std.specs.Prelude.{Ok}
 use Prim.Native.Nat.{ℕ, ◌+◌, ◌*◌, ◌^◌, ◌≤◌}
 use mathlib.Core.Path.{◌≡◌}
 use mathlib.Core.List.{List}
 use native.Mathlib.Numerals.{add-one}
 use lib.ListN.{length}
 use Rattle.array.specs.Map.{well_formed}
-use Rattle.array.specs.declared.Verdict.TheVariants.{Accepted}
 use Rattle.array.proofs.Formed.{formed}
 use Rattle.paths.specs.Path.{is_open, clear}
 use Rattle.plans.specs.Plan.{EveryChoiceBlocked, NotAfter}
@@ -28,7 +28,7 @@ settling_keeps n m grid part dir hn hm s plan =
     exchanged (outward_clears_on n m grid hn hm) (clear_either n m grid) s dir plan
 
 module _ (n m : ℕ) (grid : List ℕ) where
-  module _ (map : well_formed n m grid ≡ Accepted) where
+  module _ (map : well_formed n m grid ≡ Ok tt) where
     none_found : (k : ℕ) → quick_planned n m grid ≡ exhausted k → EveryChoiceBlocked n m grid
     unfolding quick_planned searched
     none_found k e =

@@ -1,6 +1,6 @@
 -- What the inner parts of the quick planner promise each other.
 -- Assumes nothing.
-use Rattle.std.specs.Prelude.{ℕ, suc, ◌-◌, ◌≤◌, ◌<◌, ◌≡◌, Bool, cond, List, [], ◌∷◌, ◌++◌, ltb, eqb, length, get_or, take, drop}
+use Rattle.std.specs.Prelude.{ℕ, suc, ◌-◌, ◌≤◌, ◌<◌, ◌≡◌, Bool, cond, List, [], ◌∷◌, ◌++◌, map, ltb, eqb, length, get_or, take, drop}
 use Rattle.array.specs.Place.{row, column}
 use Rattle.array.specs.Buffer.{buffer}
 use Rattle.paths.specs.Path.{by_direction}
@@ -8,6 +8,7 @@ use Rattle.plans.specs.declared.Fault.{Fault}
 use Rattle.trials.specs.Inner.{kept_in}
 use Rattle.trials.specs.declared.Outcome.{Outcome}
 use Rattle.trials.specs.declared.Outcome.TheVariants.{Repaired, Beyond, Spent}
+use Rattle.peeling.specs.declared.Settled.{Settled}
 use Rattle.peeling.specs.Peel.{Pick, settles, pick_along, peeled_on, unpeeled_on}
 
 -- each is a position of a buffer of 1,024
@@ -45,11 +46,15 @@ pub record Split (n m : ℕ) (grid left held ways : List ℕ) (settled : ℕ) : 
 abbrev pub held_with : List ℕ → List ℕ → List Fault
 held_with held ways = kept_in held ways (length held)
 
--- each of these positions has a direction beside it, and the buffer a place for it
-pub record Writable (held ways directions : List ℕ) : Type 0 where
-  pub paired : length held ≤ length ways
-  pub places : Positions held
-  pub long : length directions ≡ 1024
+-- the positions of settled faults, their directions, and the faults themselves
+abbrev pub positions : List Settled → List ℕ
+positions fs = map (λ (f : Settled). f.position) fs
+
+abbrev pub directions : List Settled → List ℕ
+directions fs = map (λ (f : Settled). f.direction) fs
+
+abbrev pub held_faults : List Settled → List Fault
+held_faults fs = held_with (positions fs) (directions fs)
 
 -- the direction at p: that of the first of these faults which stands there, else what the buffer holds
 unfoldable pub direction_over : List Fault → List ℕ → ℕ → ℕ

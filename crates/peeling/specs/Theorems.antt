@@ -1,9 +1,8 @@
 -- What is proved of settling outer faults first and of the quick planner, for every N, M and grid: the statements.
 -- Assumes nothing.
-use Rattle.std.specs.Prelude.{ℕ, ◌+◌, ◌*◌, ◌^◌, ◌≤◌, ◌≡◌, List, [], length, get_or}
+use Rattle.std.specs.Prelude.{ℕ, ◌+◌, ◌*◌, ◌^◌, ◌≤◌, ◌≡◌, List, [], length, get_or, Ok}
 use Rattle.array.specs.Buffer.{tabulate}
 use Rattle.array.specs.Map.{well_formed, inner_fault}
-use Rattle.array.specs.declared.Verdict.TheVariants.{Accepted}
 use Rattle.paths.specs.Path.{is_open, clear}
 use Rattle.plans.specs.Faults.{directions_at}
 use Rattle.plans.specs.Plan.{EveryChoiceBlocked, NotAfter}
@@ -48,17 +47,17 @@ pub record QuickRule : Type 0 where
   pub unhindered : (n m : ℕ) (grid : List ℕ) → n ≤ 30 → m ≤ 30
       → quick_planned n m grid ≡ searched n m grid [] (unpeeled_on n m grid)
   -- where the trials find directions for the rest, the whole direction buffer passes the plan check, and holds them
-  pub plans : (n m k : ℕ) (grid xs : List ℕ) → well_formed n m grid ≡ Accepted → quick_planned n m grid ≡ found k xs
-      → check_plan n m grid (completed n m grid xs) ≡ Accepted
-  pub rest_held : (n m k : ℕ) (grid xs : List ℕ) → well_formed n m grid ≡ Accepted → quick_planned n m grid ≡ found k xs
+  pub plans : (n m k : ℕ) (grid xs : List ℕ) → well_formed n m grid ≡ Ok tt → quick_planned n m grid ≡ found k xs
+      → check_plan n m grid (completed n m grid xs) ≡ Ok tt
+  pub rest_held : (n m k : ℕ) (grid xs : List ℕ) → well_formed n m grid ≡ Ok tt → quick_planned n m grid ≡ found k xs
       → directions_at (completed n m grid xs) (unpeeled_on n m grid) ≡ xs
   -- no plan that agrees with the settled paths comes before it
-  pub first : (n m k : ℕ) (grid xs : List ℕ) → well_formed n m grid ≡ Accepted → quick_planned n m grid ≡ found k xs
+  pub first : (n m k : ℕ) (grid xs : List ℕ) → well_formed n m grid ≡ Ok tt → quick_planned n m grid ≡ found k xs
       → (a : AgreeingOn n m grid (settled_on n m grid)) → NotAfter xs (others_of n m grid a)
   -- where they are exhausted every choice is blocked, and they are exhausted wherever every choice is blocked
-  pub none_found : (n m k : ℕ) (grid : List ℕ) → well_formed n m grid ≡ Accepted → quick_planned n m grid ≡ exhausted k
+  pub none_found : (n m k : ℕ) (grid : List ℕ) → well_formed n m grid ≡ Ok tt → quick_planned n m grid ≡ exhausted k
       → EveryChoiceBlocked n m grid
-  pub none_there : (n m : ℕ) (grid : List ℕ) → well_formed n m grid ≡ Accepted → EveryChoiceBlocked n m grid
+  pub none_there : (n m : ℕ) (grid : List ℕ) → well_formed n m grid ≡ Ok tt → EveryChoiceBlocked n m grid
       → quick_planned n m grid ≡ exhausted (count (quick_planned n m grid))
   -- the bound on their count, by the faults left, said without a division
   pub bound : (n m : ℕ) (grid : List ℕ)

@@ -1,5 +1,6 @@
 -- The clash table serves the plan check: between distinct starts its entry says what tests 6 and 7 say, at every size.
 -- Assumes nothing.
+use Rattle.std.specs.Prelude.{Ok}
 use mathlib.Core.Path.{◌≡◌, sym, ap, subst, ◌∙◌}
 use mathlib.Core.Bool.{true}
 use mathlib.Core.List.{List}
@@ -8,7 +9,6 @@ use native.Mathlib.Omega.{arith}
 use lib.ListN.{length, get_or}
 use Rattle.array.specs.Place.{row, column, inner}
 use Rattle.array.specs.Map.{faulty}
-use Rattle.array.specs.declared.Verdict.TheVariants.{Accepted}
 use Rattle.array.proofs.Bools.{and_true}
 use Rattle.array.proofs.Verdicts.{accepted_not}
 use Rattle.array.proofs.Scans.{scan_each}
@@ -27,7 +27,7 @@ use Rattle.plans.proofs.Pairing.{faults_scan}
 use Rattle.plans.proofs.Facts.{fault_hit, hit_inner_fault}
 
 -- what passes test 5 is open
-pub opens_passed : (n m : ℕ) (grid starts ds : List ℕ) → length ds ≡ length starts → opens_test n m grid (paired starts ds) ≡ Accepted
+pub opens_passed : (n m : ℕ) (grid starts ds : List ℕ) → length ds ≡ length starts → opens_test n m grid (paired starts ds) ≡ Ok tt
     → (k : ℕ) → k < length starts → is_open n m grid (get_or starts k 0) (get_or ds k 0) ≡ true
 opens_passed n m grid starts ds same h k l =
     accepted_not (is_open n m grid (get_or starts k 0) (get_or ds k 0)) 5 (get_or starts k 0) 0
@@ -35,7 +35,7 @@ opens_passed n m grid starts ds same h k l =
 
 -- the inner faults, where their paths have passed it
 pub open_faults : {n m : ℕ} {grid starts ds : List ℕ} → Starts n m starts ds → starts ≡ faults n m grid
-    → opens_test n m grid (paired starts ds) ≡ Accepted → OpenFaults n m grid starts ds
+    → opens_test n m grid (paired starts ds) ≡ Ok tt → OpenFaults n m grid starts ds
 open_faults {n} {m} {grid} {starts} {ds} s e h =
     record {
       each =
@@ -86,7 +86,7 @@ module _ {n m : ℕ} {starts ds : List ℕ} (s : Starts n m starts ds) where
 
     -- a later path that goes south is clear of an open one
     pub south_accepted : {grid : List ℕ} → OpenFaults n m grid starts ds → get_or ds j 0 ≡ 1
-        → Accepted ≡ clash_test n m (fault_at starts ds i) (fault_at starts ds j)
+        → (Ok tt) ≡ clash_test n m (fault_at starts ds i) (fault_at starts ds j)
     south_accepted {grid} o e =
         let g : i < length starts = omega arith in
         let p = get_or starts i 0 in

@@ -1,5 +1,6 @@
 -- Faults given by a list of positions and a list of directions: their scans by index.
 -- Assumes nothing.
+use Rattle.std.specs.Prelude.{Ok}
 use mathlib.Core.Path.{◌≡◌, refl, sym, ap, ◌∙◌}
 use mathlib.Core.List.{List, [], ◌∷◌}
 use Prim.Native.Nat.{ℕ, zero, suc, ◌+◌, ◌<◌, ◌≤◌}
@@ -9,8 +10,7 @@ use native.Mathlib.Omega.{arith}
 use lib.ListN.{length, get_or, drop, drop_of_length-le}
 use lib.Seq.{drop-cons, ext_get_or}
 use Rattle.array.specs.Tests.{or_else, first_of}
-use Rattle.array.specs.declared.Verdict.{Verdict}
-use Rattle.array.specs.declared.Verdict.TheVariants.{Accepted}
+use Rattle.array.specs.Tests.{Verdict}
 use Rattle.array.specs.Buffer.{tabulate}
 use Rattle.array.proofs.Scans.{Scan, list_scan}
 use Rattle.array.proofs.Fills.{tabulate_length, tabulate_at}
@@ -65,7 +65,7 @@ module _ (ps ds : List ℕ) (same : length ds ≡ length ps) where
         let l : i < length (paired ps ds) = omega (arith, paired_length ps ds same) in
         rw (drop-cons (paired ps ds) i (fault 0 0) l, add-one i, paired_at ps ds i (fault 0 0) same h)
 
-    pairs_end : (i : ℕ) → length ps ≤ i → pairs_test n m (drop i (paired ps ds)) ≡ Accepted
+    pairs_end : (i : ℕ) → length ps ≤ i → pairs_test n m (drop i (paired ps ds)) ≡ Ok tt
     unfolding pairs_test
     pairs_end i h =
         let l : length (paired ps ds) ≤ i = omega (arith, paired_length ps ds same) in

@@ -1,12 +1,12 @@
 -- The tests 5 to 7 pass a choice of directions exactly when it is a plan.
 -- Assumes nothing.
+use Rattle.std.specs.Prelude.{Ok}
 use mathlib.Core.Path.{◌≡◌, sym, ap, ◌∙◌}
 use mathlib.Core.Bool.{false, not, true≢false}
 use mathlib.Core.List.{List}
 use Prim.Native.Nat.{ℕ, ◌+◌, ◌<◌}
 use native.Mathlib.Omega.{arith}
 use lib.ListN.{length, get_or}
-use Rattle.array.specs.declared.Verdict.TheVariants.{Accepted}
 use Rattle.array.proofs.Verdicts.{both_accepted, accept_both, false_accepted}
 use Rattle.array.proofs.Scans.{scan_each, scan_each_from, scan_all, scan_all_from}
 use Rattle.paths.specs.Path.{meet, near_miss}
@@ -22,7 +22,7 @@ module _ (n m : ℕ) (grid ds : List ℕ) where
   starts = faults n m grid
 
   -- from the tests to the plan
-  module _ (chosen : Choice n m grid ds) (opens : opens_test n m grid (paired starts ds) ≡ Accepted) (pairs : pairs_test n m (paired starts ds) ≡ Accepted) where
+  module _ (chosen : Choice n m grid ds) (opens : opens_test n m grid (paired starts ds) ≡ Ok tt) (pairs : pairs_test n m (paired starts ds) ≡ Ok tt) where
     same : length ds ≡ length starts
     same = chosen.one_each
 
@@ -43,7 +43,7 @@ module _ (n m : ℕ) (grid ds : List ℕ) where
           no_near_miss = λ i j h l. (clear i j h l).1;
         }
 
-  pub paths_plan : Choice n m grid ds → paths_test n m grid (paired starts ds) ≡ Accepted → Plan n m grid ds
+  pub paths_plan : Choice n m grid ds → paths_test n m grid (paired starts ds) ≡ Ok tt → Plan n m grid ds
   unfolding paths_test
   paths_plan chosen h =
       let a = both_accepted (opens_test n m grid (paired starts ds)) (pairs_test n m (paired starts ds)) h in
@@ -54,15 +54,15 @@ module _ (n m : ℕ) (grid ds : List ℕ) where
     as_many : length ds ≡ length starts
     as_many = plan.one_path.one_each
 
-    open_right : (k : ℕ) → k < length starts → open_test n m grid (fault_at starts ds k) ≡ Accepted
+    open_right : (k : ℕ) → k < length starts → open_test n m grid (fault_at starts ds k) ≡ Ok tt
     open_right k h = false_accepted 5 (get_or starts k 0) 0 (ap not (plan.open_path k (omega (arith, as_many))))
 
-    pair_right : (i j : ℕ) → i < j → j < length starts → clash_test n m (fault_at starts ds i) (fault_at starts ds j) ≡ Accepted
+    pair_right : (i j : ℕ) → i < j → j < length starts → clash_test n m (fault_at starts ds i) (fault_at starts ds j) ≡ Ok tt
     pair_right i j h l =
         clear_accepted n m (get_or starts i 0) (get_or ds i 0) (get_or starts j 0) (get_or ds j 0)
         (neither_clear n m _ _ _ _ (plan.no_meeting i j h (omega (arith, as_many))) (plan.no_near_miss i j h (omega (arith, as_many))))
 
-    pub plan_paths : paths_test n m grid (paired starts ds) ≡ Accepted
+    pub plan_paths : paths_test n m grid (paired starts ds) ≡ Ok tt
     unfolding paths_test
     plan_paths =
         accept_both (scan_all (faults_scan starts ds as_many (open_test n m grid)) open_right)

@@ -1,5 +1,6 @@
 -- What accepted tests 1 to 7 leave for the inner parts of a call.
 -- Assumes nothing.
+use Rattle.std.specs.Prelude.{Ok}
 use mathlib.Core.Path.{◌≡◌}
 use mathlib.Core.Bool.{Bool, true}
 use mathlib.Core.List.{List}
@@ -7,15 +8,14 @@ use Prim.Native.Nat.{ℕ}
 use lib.ListN.{length}
 use Rattle.array.specs.Tests.{or_else}
 use Rattle.array.specs.Map.{map_tests}
-use Rattle.array.specs.declared.Verdict.TheVariants.{Accepted}
 use Rattle.array.proofs.Maps.{AcceptedMap, map_accepted}
 use Rattle.array.proofs.Verdicts.{both_accepted}
 use Rattle.plans.specs.Faults.{directed_faults}
 use Rattle.plans.specs.Check.{directions_test, paths_test, plan_tests}
 use Rattle.plans.specs.Inner.{Directed}
 
-module _ (n m : ℕ) (right : Bool) (grid directions : List ℕ) (passed : plan_tests n m right grid directions ≡ Accepted) where
-  tests : (map_tests n m right grid ≡ Accepted) × (or_else (directions_test n m grid directions) (paths_test n m grid (directed_faults n m grid directions)) ≡ Accepted)
+module _ (n m : ℕ) (right : Bool) (grid directions : List ℕ) (passed : plan_tests n m right grid directions ≡ Ok tt) where
+  tests : (map_tests n m right grid ≡ Ok tt) × (or_else (directions_test n m grid directions) (paths_test n m grid (directed_faults n m grid directions)) ≡ Ok tt)
   unfolding plan_tests
   tests = both_accepted _ _ passed
 

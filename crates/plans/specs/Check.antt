@@ -1,11 +1,10 @@
 -- Document 01, "Paths and plans" and "Numbers returned": the plan check, 1 to 7.
 -- Assumes nothing.
-use Rattle.std.specs.Prelude.{ℕ, ◌<◌, ◌≡◌, Bool, false, not, ◌&&◌, ◌||◌, ◌↔◌, List, [], ◌∷◌, ltb, eqb, length, get_or}
+use Rattle.std.specs.Prelude.{ℕ, ◌<◌, ◌≡◌, Bool, false, not, ◌&&◌, ◌||◌, ◌↔◌, List, [], ◌∷◌, ltb, eqb, length, get_or, Ok}
 use Rattle.array.specs.Tests.{or_else, refuse_if, first_of, first_in}
 use Rattle.array.specs.Buffer.{all_long}
 use Rattle.array.specs.Map.{map_tests, well_formed, inner_fault}
-use Rattle.array.specs.declared.Verdict.{Verdict}
-use Rattle.array.specs.declared.Verdict.TheVariants.{Accepted}
+use Rattle.array.specs.Tests.{Verdict}
 use Rattle.paths.specs.Path.{is_open, pair_test}
 use Rattle.plans.specs.Faults.{faults, directions_at, directed_faults}
 use Rattle.plans.specs.Plan.{Plan}
@@ -35,7 +34,7 @@ clash_test n m f g = pair_test n m f.position f.direction g.position g.direction
 
 -- pairs by first and then second member; the first offending one is reported
 unfoldable pub pairs_test : ℕ → ℕ → List Fault → Verdict
-pairs_test n m [] = Accepted
+pairs_test n m [] = (Ok tt)
 pairs_test n m (f ∷ fs) = or_else (first_of (clash_test n m f) fs) (pairs_test n m fs)
 
 -- 5, then 6 and 7 taken together
@@ -58,7 +57,7 @@ check_plan n m grid directions = plan_test n m (grid ∷ directions ∷ []) grid
 
 -- a direction buffer holds a plan: on a well-formed map its directions at the inner faults are one, and 0 stands elsewhere
 pub record HoldsPlan (n m : ℕ) (grid directions : List ℕ) : Type 0 where
-  pub map : well_formed n m grid ≡ Accepted
+  pub map : well_formed n m grid ≡ Ok tt
   pub length_right : length directions ≡ 1024
   pub plan : Plan n m grid (directions_at directions (faults n m grid))
   pub elsewhere : (p : ℕ) → p < 1024 → inner_fault n m grid p ≡ false → get_or directions p 0 ≡ 0
@@ -66,4 +65,4 @@ pub record HoldsPlan (n m : ℕ) (grid directions : List ℕ) : Type 0 where
 -- the check accepts these and nothing else
 abbrev pub AcceptsPlans : Type 0
 AcceptsPlans =
-    (n m : ℕ) (grid directions : List ℕ) → (check_plan n m grid directions ≡ Accepted) ↔ HoldsPlan n m grid directions
+    (n m : ℕ) (grid directions : List ℕ) → (check_plan n m grid directions ≡ Ok tt) ↔ HoldsPlan n m grid directions

@@ -1,9 +1,8 @@
 -- What the inner parts of the plan check ask of their arguments.
 -- Assumes nothing.
-use Rattle.std.specs.Prelude.{ℕ, ◌≤◌, ◌<◌, ◌≡◌, true, List, length, get_or, take, drop}
+use Rattle.std.specs.Prelude.{ℕ, ◌≤◌, ◌<◌, ◌≡◌, true, List, length, get_or, take, drop, Ok}
 use Rattle.array.specs.Buffer.{Ascending}
-use Rattle.array.specs.declared.Verdict.TheVariants.{Accepted}
-use Rattle.array.specs.declared.Verdict.{Verdict}
+use Rattle.array.specs.Tests.{Verdict}
 use Rattle.array.specs.Place.{row, column}
 use Rattle.array.specs.Map.{faulty}
 use Rattle.paths.specs.Path.{Start, is_open}
@@ -62,4 +61,4 @@ pub record Sound (n m : ℕ) (grid directions : List ℕ) : Type 0 where
 -- and as after test 4
 pub record Directed (n m : ℕ) (grid directions : List ℕ) : Type 0 where
   pub sound : Sound n m grid directions
-  pub right : directions_test n m grid directions ≡ Accepted
+  pub right : directions_test n m grid directions ≡ Ok tt

@@ -1,9 +1,8 @@
 -- Document 01, "Paths and plans": a plan said by positions, with a direction for each position, of which those at the inner faults count.
 -- Assumes nothing.
-use Rattle.std.specs.Prelude.{ℕ, ◌≤◌, ◌<◌, ◌≡◌, Bool, true, false, ◌↔◌, List, length, get_or}
+use Rattle.std.specs.Prelude.{ℕ, ◌≤◌, ◌<◌, ◌≡◌, Bool, true, false, ◌↔◌, List, length, get_or, Ok}
 use Rattle.array.specs.Buffer.{Lists}
 use Rattle.array.specs.Map.{well_formed, inner_fault}
-use Rattle.array.specs.declared.Verdict.TheVariants.{Accepted}
 use Rattle.paths.specs.Path.{is_open, clear}
 use Rattle.plans.specs.Faults.{faults, directions_at}
 use Rattle.plans.specs.Plan.{Chosen, Plan}
@@ -48,6 +47,6 @@ pub record ByPosition : Type 0 where
   pub buffers : (n m : ℕ) (grid directions : List ℕ)
       → Plan n m grid (directions_at directions (faults n m grid)) ↔ PlanOn n m grid (read_at directions)
   -- and of a whole direction buffer
-  pub holds : (n m : ℕ) (grid directions : List ℕ) → well_formed n m grid ≡ Accepted → length directions ≡ 1024
+  pub holds : (n m : ℕ) (grid directions : List ℕ) → well_formed n m grid ≡ Ok tt → length directions ≡ 1024
       → ((p : ℕ) → p < 1024 → inner_fault n m grid p ≡ false → get_or directions p 0 ≡ 0)
       → HoldsPlan n m grid directions ↔ PlanOn n m grid (read_at directions)

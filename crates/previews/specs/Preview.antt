@@ -1,10 +1,9 @@
 -- Document 02, T-08: what the preview of a report gives. It is read off the report's own definitions: its answer is
 -- `report_test`, and what it foretells stands in `session_reported`.
 -- Assumes nothing.
-use Rattle.std.specs.Prelude.{ℕ, ◌+◌, Bool, not, List, eqb, length, get_or}
+use Rattle.std.specs.Prelude.{ℕ, ◌+◌, Bool, not, List, eqb, length, get_or, Ok, Err}
 use Rattle.array.specs.Buffer.{zeros, positions_in}
-use Rattle.array.specs.declared.Verdict.{Verdict}
-use Rattle.array.specs.declared.Verdict.TheVariants.{Accepted, Refused}
+use Rattle.array.specs.Tests.{Verdict}
 use Rattle.sessions.specs.Session.{report_test, session_reported}
 use Rattle.sessions.specs.declared.Session.{Session}
 use Rattle.previews.specs.declared.Foretold.{Foretold}
@@ -26,8 +25,8 @@ shown_at s p =
 
 -- by the answer
 abbrev pub foretold_if : Verdict → Foretold → Foretold
-foretold_if Accepted f = f
-foretold_if (Refused r) f = nothing_foretold
+foretold_if (Ok tt) f = f
+foretold_if (Err r) f = nothing_foretold
 
 -- THE PREVIEW, beside its answer: the direction at p and the counters of the session after the report
 unfoldable pub foretold : Session → Bool → ℕ → Foretold

@@ -2,10 +2,11 @@
 // preview is for callers, count_changes serves `history`; the other functions are inner parts.
 #![tactic(auto)]
 
-ghost use Rattle.std.specs.Prelude.{◌≡◌, ◌≤◌};
+ghost use Rattle.std.specs.Prelude.{◌≡◌, ◌≤◌, ◌<◌, not, ◌==◌, count_by};
+ghost use Rattle.std.specs.List.{zip};
 ghost use Rattle.array.specs.Tests.{told};
 ghost use Rattle.sessions.specs.Session.{report_test};
-ghost use Rattle.previews.specs.Preview.{nothing_foretold, foretold, differences, counter_changes};
+ghost use Rattle.previews.specs.Preview.{nothing_foretold, shown_at, foretold, counter_changes};
 
 use array::Verdict;
 use sessions::Session;
@@ -20,25 +21,40 @@ pub struct Foretold {
     pub west: [u8; 1024],
 }
 
+impl Foretold {
+    // What stands beside a refusal.
+    fn nothing() -> Self
+        ensures { result ≡ nothing_foretold }
+    {
+        Foretold {
+            direction: 0,
+            south: [0; 1024],
+            north: [0; 1024],
+            east: [0; 1024],
+            west: [0; 1024],
+        }
+    }
+
+    // The direction that a session has at p, and its counters.
+    fn shown(s: &Session, p: usize) -> Self
+        requires { p < 1024 }
+        ensures { result ≡ shown_at s.now p }
+    {
+        Foretold {
+            direction: s.directions[p],
+            south: s.south,
+            north: s.north,
+            east: s.east,
+            west: s.west,
+        }
+    }
+}
+
 // The answer of the report, and what it would leave.
 #[derive(Clone, Copy)]
 pub struct Previewed {
     pub answer: Verdict,
     pub foretold: Foretold,
-}
-
-// What stands beside a refusal.
-fn nothing() -> Foretold
-    ensures { result ≡ nothing_foretold }
-{
-    let none = [0u8; 1024];
-    Foretold {
-        direction: 0,
-        south: none,
-        north: none,
-        east: none,
-        west: none,
-    }
 }
 
 // What the report of a processor that fails or recovers would answer and leave: the report itself, made on the copy that
@@ -47,45 +63,23 @@ pub fn preview(s: Session, failing: bool, position: usize) -> Previewed
     ensures answer { told result.answer ≡ told (report_test s failing position) }
     ensures foretold { result.foretold ≡ foretold s failing position }
 {
-    let r = sessions::report(s, failing, position);
-    let answer = r.answer;
-    if let Verdict::Refused(_) = answer {
-        let none = nothing();
-        return Previewed {
-            answer: answer,
-            foretold: none,
-        };
-    }
-    let after = r.session;
-    let directions = after.directions;
-    let south = after.south;
-    let north = after.north;
-    let east = after.east;
-    let west = after.west;
-    let foretold = Foretold {
-        direction: directions[position],
-        south: south,
-        north: north,
-        east: east,
-        west: west,
+    let after = sessions::report(s, failing, position);
+    let foretold = match after.answer {
+        Ok(()) => Foretold::shown(&after.session, position),
+        Err(_) => Foretold::nothing(),
     };
     Previewed {
-        answer: answer,
-        foretold: foretold,
+        answer: after.answer,
+        foretold,
     }
 }
 
 // At how many positions two buffers differ.
-fn count_differences(a: [u8; 1024], b: [u8; 1024]) -> usize
-    ensures { (result ≡ differences a b) × (result ≤ 1024) }
+fn count_differences(a: &[u8; 1024], b: &[u8; 1024]) -> usize
+    ensures pairs { result ≡ count_by (λ p. not (p.0 == p.1)) (zip a.now b.now) }
+    ensures few { result ≤ 1024 }
 {
-    let mut count = 0;
-    for p in 0..1024 {
-        if a[p] != b[p] {
-            count += 1;
-        }
-    }
-    count
+    a.iter().zip(b).filter(|(x, y)| x != y).count()
 }
 
 // How many counters would change: those of a session that differ from what is foretold. Beside a refusal, where all of
@@ -93,15 +87,8 @@ fn count_differences(a: [u8; 1024], b: [u8; 1024]) -> usize
 pub fn count_changes(s: Session, f: Foretold) -> usize
     ensures { result ≡ counter_changes s f }
 {
-    let south = s.south;
-    let north = s.north;
-    let east = s.east;
-    let west = s.west;
-    let new_south = f.south;
-    let new_north = f.north;
-    let new_east = f.east;
-    let new_west = f.west;
-    let vertical = count_differences(south, new_south) + count_differences(north, new_north);
-    let horizontal = count_differences(east, new_east) + count_differences(west, new_west);
-    vertical + horizontal
+    count_differences(&s.south, &f.south)
+        + count_differences(&s.north, &f.north)
+        + count_differences(&s.east, &f.east)
+        + count_differences(&s.west, &f.west)
 }

@@ -5,10 +5,9 @@ use mathlib.Core.Path.{◌≡◌, refl, ap}
 use native.Mathlib.Omega.{arith}
 use Rattle.array.specs.Tests.{LosesNothing}
 use Rattle.array.proofs.Answers.{refusal_kept}
-use Rattle.readers.specs.Reading.{told, told_map, map_of}
+use Rattle.readers.specs.Reading.{FileRead, told, told_map, map_of}
 use Rattle.readers.specs.declared.Head.{Head}
-use Rattle.readers.specs.declared.FileRead.TheVariants.{File, Refused}
-use Rattle.readers.specs.declared.MapRead.TheVariants as map
+use Rattle.std.specs.Prelude.{Ok, Err}
 
 abbrev head_of : ℕ → ℕ → ℕ → Head
 head_of n m k = record { rows = n; columns = m; count = k }
@@ -19,18 +18,18 @@ same_file :
     m ≡ m' →
     k ≡ k' →
     t ≡ t' →
-    File (head_of n m k) t ≡ File (head_of n' m' k') t'
+    ◌≡◌ {A = FileRead} (Ok (head_of n m k, t)) (Ok (head_of n' m' k', t'))
 same_file n n' m m' k k' t t' a b d e = rw (a, b, d, e)
 
 pub read_kept : LosesNothing told
-read_kept (File h t) (File g u) e = same_file _ _ _ _ _ _ _ _ (cc) (cc) (cc) (cc)
-read_kept (File h t) (Refused s) e = let z : ◌≡◌ {A = ℕ} 0 1 = cc in absurd (omega arith)
-read_kept (Refused r) (File g u) e = let z : ◌≡◌ {A = ℕ} 0 1 = cc in absurd (omega arith)
-read_kept (Refused r) (Refused s) e = ap Refused (refusal_kept r s e)
+read_kept (Ok (h, t)) (Ok (g, u)) e = same_file _ _ _ _ _ _ _ _ (cc) (cc) (cc) (cc)
+read_kept (Ok (h, t)) (Err s) e = let z : ◌≡◌ {A = ℕ} 0 1 = cc in absurd (omega arith)
+read_kept (Err r) (Ok (g, u)) e = let z : ◌≡◌ {A = ℕ} 0 1 = cc in absurd (omega arith)
+read_kept (Err r) (Err s) e = ap Err (refusal_kept r s e)
 
 pub map_kept : LosesNothing told_map
-map_kept (map.File h) (map.File g) e =
+map_kept (Ok h) (Ok g) e =
     ap map_of (same_file _ _ _ _ _ _ 0 0 (cc) (cc) (cc) refl)
-map_kept (map.File h) (map.Refused s) e = let z : ◌≡◌ {A = ℕ} 0 1 = cc in absurd (omega arith)
-map_kept (map.Refused r) (map.File g) e = let z : ◌≡◌ {A = ℕ} 0 1 = cc in absurd (omega arith)
-map_kept (map.Refused r) (map.Refused s) e = ap map.Refused (refusal_kept r s e)
+map_kept (Ok h) (Err s) e = let z : ◌≡◌ {A = ℕ} 0 1 = cc in absurd (omega arith)
+map_kept (Err r) (Ok g) e = let z : ◌≡◌ {A = ℕ} 0 1 = cc in absurd (omega arith)
+map_kept (Err r) (Err s) e = ap Err (refusal_kept r s e)

@@ -1,18 +1,15 @@
 -- What the parts of a reader give, for all kinds of record. Assumes nothing.
-use Rattle.std.specs.Prelude.{ℕ, Bool, cond, not, ◌&&◌, List, leb, eqb, get_or}
+use Rattle.std.specs.Prelude.{ℕ, Bool, cond, not, ◌&&◌, List, leb, eqb, get_or, Ok}
 use Rattle.array.specs.Place.{position, inner_at, processor_at}
 use Rattle.array.specs.Buffer.{nothing_at}
 use Rattle.array.specs.Map.{dead_mark, faulty_mark}
-use Rattle.formats.specs.Number.{number_at}
+use Rattle.formats.specs.Number.{number_at, Number}
 use Rattle.formats.specs.Records.{healthy_mark}
-use Rattle.formats.specs.declared.Number.{Number}
-use Rattle.formats.specs.declared.Number.TheVariants.{Read}
 use Rattle.formats.specs.declared.Kind.{Kind}
 use Rattle.formats.specs.declared.Kind.TheVariants.{Map, Plan}
 use Rattle.formats.specs.declared.Record.{Record}
 use Rattle.formats.specs.declared.Record.TheVariants.{Fault, Dead, Path}
-use Rattle.readers.specs.Reading.{no_record, mark_in_order}
-use Rattle.readers.specs.declared.Step.{Step}
+use Rattle.readers.specs.Reading.{no_record, mark_in_order, Step}
 
 -- what a blank buffer holds at a position
 abbrev pub blank_mark : Kind → ℕ → ℕ → ℕ → ℕ
@@ -38,8 +35,8 @@ repeated Path d = not (eqb d 0)
 
 -- what a record writes: a mark, which is not in the file, or a path's direction, which follows its column
 abbrev pub value_at : Record → List ℕ → ℕ → Number
-value_at Fault s at = Read 1 at
-value_at Dead s at = Read 3 at
+value_at Fault s at = Ok (1, at)
+value_at Dead s at = Ok (3, at)
 value_at Path s at = number_at s at
 
 -- what a record may write: the mark of its kind, or one of the four directions

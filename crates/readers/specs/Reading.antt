@@ -1,8 +1,9 @@
 -- Document 01, "Files" and "Numbers returned", and document 02, T-01, T-04 and T-06: what a reader answers, and the
 -- lent buffer afterwards. Assumes nothing.
-use Rattle.std.specs.Prelude.{ℕ, zero, suc, ◌+◌, cond, ◌&&◌, List, [], ◌∷◌, ltb, leb, eqb, length, get_or, set}
+use Rattle.std.specs.Prelude.{ℕ, zero, suc, ◌+◌, cond, ◌&&◌, List, [], ◌∷◌, ltb, leb, eqb, length, get_or, set, Result, Ok, Err}
 use Rattle.array.specs.Place.{position, inner_at, processor_at}
 use Rattle.array.specs.Tests.{refusal, Told, accepts, refuses_as}
+use Rattle.array.specs.declared.Refusal.{Refusal}
 use Rattle.array.specs.Buffer.{long}
 use Rattle.array.specs.Map.{faulty}
 use Rattle.formats.specs.Number.{number_at, size_at, read_or}
@@ -12,31 +13,38 @@ use Rattle.formats.specs.declared.Kind.TheVariants.{Map, Plan}
 use Rattle.formats.specs.declared.Record.{Record}
 use Rattle.formats.specs.declared.Record.TheVariants.{Fault, Dead, Path}
 use Rattle.readers.specs.declared.Head.{Head}
-use Rattle.readers.specs.declared.Step.{Step}
-use Rattle.readers.specs.declared.FileRead.{FileRead}
-use Rattle.readers.specs.declared.FileRead.TheVariants.{File, Refused}
-use Rattle.readers.specs.declared.MapRead.{MapRead}
-use Rattle.readers.specs.declared.MapRead.TheVariants as map
-use Rattle.readers.specs.declared.Step.TheVariants as step
+
+-- what reading a record answers: the offset after it and its position, or the refusal
+abbrev pub Step : Type 0
+Step = Result (ℕ × ℕ) Refusal
+
+-- T-06. What the reader of plan files answers: N, M and the count, with T, or the refusal. The parts of the readers answer
+-- so for both kinds of file: a map has no T, and 0 stands for it.
+abbrev pub FileRead : Type 0
+FileRead = Result (Head × ℕ) Refusal
+
+-- what the reader of map files answers
+abbrev pub MapRead : Type 0
+MapRead = Result Head Refusal
 
 -- T-06. Of a plan: N, M, the count and T, or the refusal.
 abbrev pub told : FileRead → Told
-told (File h t) = accepts (h.rows ∷ h.columns ∷ h.count ∷ t ∷ [])
-told (Refused r) = refuses_as r
+told (Ok (h, t)) = accepts (h.rows ∷ h.columns ∷ h.count ∷ t ∷ [])
+told (Err r) = refuses_as r
 
 -- of a map: N, M and the count, or the refusal
 abbrev pub told_map : MapRead → Told
-told_map (map.File h) = accepts (h.rows ∷ h.columns ∷ h.count ∷ [])
-told_map (map.Refused r) = refuses_as r
+told_map (Ok h) = accepts (h.rows ∷ h.columns ∷ h.count ∷ [])
+told_map (Err r) = refuses_as r
 
 -- a record's refusal, with the buffer as it was; place is the record's row
 abbrev pub no_record : ℕ → ℕ → List ℕ → Step × List ℕ
-no_record k at b = (step.Refused (refusal k at 0), b)
+no_record k at b = (Err (refusal k at 0), b)
 
 -- T-01. 19: position p is lower than that of the record before. At the first record `before` is 0, and no position is
 -- lower. Else v is marked at p.
 abbrev pub mark_in_order : ℕ → ℕ → ℕ → ℕ → ℕ → List ℕ → Step × List ℕ
-mark_in_order at before p v next b = cond (ltb p before) (no_record 19 at b) (step.Next next p, set b p v)
+mark_in_order at before p v next b = cond (ltb p before) (no_record 19 at b) (Ok (next, p), set b p v)
 
 -- A fault (x, y) is marked in a grid. 10: there is no processor. 11: the position is marked already. Then 19.
 abbrev pub mark_fault : ℕ → ℕ → ℕ → ℕ → ℕ → ℕ → ℕ → List ℕ → Step × List ℕ
@@ -67,8 +75,8 @@ mark_path n m at before x y d next directions =
 abbrev pub place_at : List ℕ → ℕ → List ℕ → (ℕ → ℕ → ℕ → Step × List ℕ) → Step × List ℕ
 place_at s at b f =
     read_or (number_at s at)
-    (λ x a. read_or (number_at s a) (λ y next. f x y next) (λ r. (step.Refused r, b)))
-    (λ r. (step.Refused r, b))
+    (λ x a. read_or (number_at s a) (λ y next. f x y next) (λ r. (Err r, b)))
+    (λ r. (Err r, b))
 
 -- the record at an offset, judged once all its numbers are read; `before` is the position of the record before it, or 0
 unfoldable pub record_at : Record → List ℕ → ℕ → ℕ → ℕ → ℕ → List ℕ → Step × List ℕ
@@ -79,23 +87,23 @@ record_at Path s n m at before directions =
     (λ x y a.
     read_or (number_at s a)
     (λ d next. mark_path n m at before x y d next directions)
-    (λ r. (step.Refused r, directions)))
+    (λ r. (Err r, directions)))
 
 -- a record's answer with the buffer being filled, and what follows it, given the next offset and the record's position
 abbrev pub and_then : Step × List ℕ → (ℕ → ℕ → List ℕ → Step × List ℕ) → Step × List ℕ
-and_then (step.Next at p, b) f = f at p b
-and_then (step.Refused r, b) f = (step.Refused r, b)
+and_then (Ok (at, p), b) f = f at p b
+and_then (Err r, b) f = (Err r, b)
 
 -- k records from an offset on, after a record of position `before`
 unfoldable pub records_at : Record → List ℕ → ℕ → ℕ → ℕ → ℕ → ℕ → List ℕ → Step × List ℕ
-records_at kind s n m zero at before b = (step.Next at before, b)
+records_at kind s n m zero at before b = (Ok (at, before), b)
 records_at kind s n m (suc k) at before b =
     and_then (record_at kind s n m at before b) (λ next p c. records_at kind s n m k next p c)
 
 -- 12: the file goes on after its last part, from the place on. T is t. A refusal leaves the lent buffer as it was.
 abbrev pub whole_file : List ℕ → Head → ℕ → List ℕ → Step × List ℕ → FileRead × List ℕ
-whole_file s head t lent (step.Next at p, b) = cond (ltb at (length s)) (Refused (refusal 12 at 0), lent) (File head t, b)
-whole_file s head t lent (step.Refused r, b) = (Refused r, lent)
+whole_file s head t lent (Ok (at, p), b) = cond (ltb at (length s)) (Err (refusal 12 at 0), lent) (Ok (head, t), b)
+whole_file s head t lent (Err r, b) = (Err r, lent)
 
 -- k records of dead processors from an offset on, into a grid, and then the end of the file
 abbrev pub dead_at : List ℕ → Head → List ℕ → ℕ → ℕ → List ℕ → FileRead × List ℕ
@@ -104,21 +112,21 @@ dead_at s head lent k at grid = whole_file s head 0 lent (records_at Dead s head
 -- T-04. What follows the first list of a map: the file ends, or goes on with a second count and the places of the dead
 -- processors. A second count of 0 is 12 at its start. The count that is returned is of both lists.
 abbrev pub second_at : List ℕ → Head → List ℕ → Step × List ℕ → FileRead × List ℕ
-second_at s head lent (step.Next at p, grid) =
+second_at s head lent (Ok (at, p), grid) =
     cond (ltb at (length s))
     (read_or (number_at s at)
     (λ k a.
-    cond (eqb k 0) (Refused (refusal 12 at 0), lent)
+    cond (eqb k 0) (Err (refusal 12 at 0), lent)
     (dead_at s (record { rows = head.rows; columns = head.columns; count = head.count + k }) lent k a grid))
-    (λ r. (Refused r, lent)))
-    (File head 0, grid)
-second_at s head lent (step.Refused r, b) = (Refused r, lent)
+    (λ r. (Err r, lent)))
+    (Ok (head, 0), grid)
+second_at s head lent (Err r, b) = (Err r, lent)
 
 -- T-06. What follows the paths of a plan: T, the trials on record, and the end of the file.
 abbrev pub trials_at : List ℕ → Head → List ℕ → Step × List ℕ → FileRead × List ℕ
-trials_at s head lent (step.Next at p, b) =
-    read_or (number_at s at) (λ t end. whole_file s head t lent (step.Next end p, b)) (λ r. (Refused r, lent))
-trials_at s head lent (step.Refused r, b) = (Refused r, lent)
+trials_at s head lent (Ok (at, p), b) =
+    read_or (number_at s at) (λ t end. whole_file s head t lent (Ok (end, p), b)) (λ r. (Err r, lent))
+trials_at s head lent (Err r, b) = (Err r, lent)
 
 -- what follows the first list of a file
 abbrev pub rest_at : Kind → List ℕ → Head → List ℕ → Step × List ℕ → FileRead × List ℕ
@@ -141,15 +149,15 @@ read_file kind s lent =
     (λ m b.
     read_or (number_at s b)
     (λ k c. body_at kind s (record { rows = n; columns = m; count = k }) lent c)
-    (λ r. (Refused r, lent)))
-    (λ r. (Refused r, lent)))
-    (λ r. (Refused r, lent)))
-    (Refused (refusal 2 0 0), lent)
+    (λ r. (Err r, lent)))
+    (λ r. (Err r, lent)))
+    (λ r. (Err r, lent)))
+    (Err (refusal 2 0 0), lent)
 
 -- what read_map and read_plan answer: a map has no T
 abbrev pub map_of : FileRead → MapRead
-map_of (File h t) = map.File h
-map_of (Refused r) = map.Refused r
+map_of (Ok (h, t)) = Ok h
+map_of (Err r) = Err r
 
 abbrev pub read_map : List ℕ → List ℕ → MapRead × List ℕ
 read_map s grid = (map_of (read_file Map s grid).0, (read_file Map s grid).1)

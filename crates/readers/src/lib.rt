@@ -1,26 +1,18 @@
 // The readers of map and plan files.
 #![tactic(auto)]
 
-ghost use Rattle.std.specs.Prelude.{◌≡◌, ℕ, ◌≤◌, ◌<◌, length};
+ghost use Rattle.std.specs.Prelude.{◌≡◌, ℕ, ◌≤◌, ◌<◌, length, Ok};
 ghost use Rattle.array.specs.Place.{position};
-ghost use Rattle.array.specs.Tests.{refusal};
+ghost use Rattle.array.specs.Reason.{reason_of};
 ghost use Rattle.formats.specs.Number.{size_at};
 ghost use Rattle.formats.specs.Records.{blank};
 ghost use Rattle.readers.specs.Reading.{told, told_map, record_at, records_at, whole_file, dead_at, second_at, trials_at};
-ghost use Rattle.readers.specs.Reading.{rest_at, body_at, map_of, read_file, read_map, read_plan};
+ghost use Rattle.readers.specs.Reading.{rest_at, body_at, read_file, read_map, read_plan};
 ghost use Rattle.readers.specs.Parts.{blank_mark, stands_at, off_number, repeated, value_at, is_value, marked};
 ghost use Rattle.formats.specs.declared.Record.TheVariants.{Dead};
-ghost use Rattle.readers.specs.declared.Step.TheVariants.{Next, Refused};
 
-use array::Refusal;
-use formats::{Kind, Number, Record};
-
-// What reading a record gives: the offset after it and its position, or the refusal.
-#[derive(Clone, Copy)]
-pub enum Step {
-    Next(usize, usize),
-    Refused(Refusal),
-}
+use array::{Reason, Refusal};
+use formats::{Kind, Record};
 
 // What both readers return of a file: N, M and the count, which of a map is that of both lists.
 #[derive(Clone, Copy)]
@@ -30,39 +22,30 @@ pub struct Head {
     pub count: usize,
 }
 
-// What the reader of plan files answers, with T, the trials on record. The inner parts answer so for both kinds of file:
-// a map has no T, and 0 stands for it.
+// A record as its numbers say it: the offset where it begins, its row and column, what it writes, and the offset after it.
 #[derive(Clone, Copy)]
-pub enum FileRead {
-    File(Head, u32),
-    Refused(Refusal),
-}
-
-// What the reader of map files answers.
-#[derive(Clone, Copy)]
-pub enum MapRead {
-    File(Head),
-    Refused(Refusal),
+struct Entry {
+    start: usize,
+    row: usize,
+    column: usize,
+    value: u32,
+    end: usize,
 }
 
 // The inner parts of the readers; some have a `requires`.
 
 // N or M at an offset, with the offset after it, or its refusal.
-fn read_size(s: &[u8], at: usize) -> Number
+fn read_size(s: &[u8], at: usize) -> Result<(u32, usize), Refusal>
     ensures { result ≡ size_at s.now at }
 {
-    let a = formats::read_number(s, at);
-    let Number::Read(v, next) = a else {
-        return a;
+    let answer = formats::read_number(s, at);
+    let Ok((size, _)) = answer else {
+        return answer;
     };
-    if array::is_size(v as usize) {
-        return Number::Read(v, next);
+    if array::is_size(size as usize) {
+        return answer;
     }
-    Number::Refused(Refusal {
-        number: 1,
-        place: at,
-        second: 0,
-    })
+    Err(Refusal::at(Reason::Size, at))
 }
 
 // What a blank buffer holds in a row and a column.
@@ -95,26 +78,29 @@ fn blank_buffer(kind: Kind, n: usize, m: usize) -> [u8; 1024]
     b
 }
 
-// Whether a record may stand at a row and a column.
-fn may_stand(kind: Record, n: usize, m: usize, x: usize, y: usize) -> bool
-    requires { (n ≤ 30) × (m ≤ 30) }
-    ensures { result ≡ stands_at kind n m x y }
+// Whether a record may stand at its row and column.
+fn may_stand(kind: Record, head: Head, entry: Entry) -> bool
+    requires { (head.rows ≤ 30) × (head.columns ≤ 30) }
+    ensures { result ≡ stands_at kind head.rows head.columns entry.row entry.column }
 {
     match kind {
-        Record::Fault => array::is_processor_at(n, m, x, y),
-        Record::Dead => array::is_inner_at(n, m, x, y),
-        Record::Path => array::is_inner_at(n, m, x, y),
+        Record::Fault => array::is_processor_at(head.rows, head.columns, entry.row, entry.column),
+        Record::Dead | Record::Path => array::is_inner_at(
+            head.rows,
+            head.columns,
+            entry.row,
+            entry.column,
+        ),
     }
 }
 
-// The number of a record that may not stand where it does.
-fn off_number(kind: Record) -> u8
-    ensures { result ≡ off_number kind }
+// Why a record may not stand where it does.
+fn off_reason(kind: Record) -> Reason
+    ensures { result ≡ reason_of (off_number kind) }
 {
     match kind {
-        Record::Fault => 10,
-        Record::Dead => 20,
-        Record::Path => 10,
+        Record::Fault | Record::Path => Reason::RecordPlace,
+        Record::Dead => Reason::DeadPlace,
     }
 }
 
@@ -125,17 +111,17 @@ fn is_repeated(kind: Record, v: u8) -> bool
     match kind {
         Record::Fault => array::is_faulty(v),
         Record::Dead => array::is_faulty(v),
-        Record::Path => !(v == 0),
+        Record::Path => v != 0,
     }
 }
 
 // What a record writes, with the offset after the record, or its refusal.
-fn read_value(kind: Record, s: &[u8], at: usize) -> Number
+fn read_value(kind: Record, s: &[u8], at: usize) -> Result<(u32, usize), Refusal>
     ensures { result ≡ value_at kind s.now at }
 {
     match kind {
-        Record::Fault => Number::Read(1, at),
-        Record::Dead => Number::Read(3, at),
+        Record::Fault => Ok((1, at)),
+        Record::Dead => Ok((3, at)),
         Record::Path => formats::read_number(s, at),
     }
 }
@@ -151,73 +137,54 @@ fn may_write(kind: Record, v: u32) -> bool
     }
 }
 
-// The refusal of the record at an offset.
-fn no_record(number: u8, at: usize) -> Step
-    ensures { result ≡ Refused (refusal number at 0) }
-{
-    Step::Refused(Refusal {
-        number,
-        place: at,
-        second: 0,
-    })
-}
-
-// Judges the record of row x and column y that starts at an offset and ends before `next`, and writes its value v.
-// The record before it has position `before`.
+// Judges a record, and writes its value; gives the offset after it and its position. The record before it has position
+// `before`.
 fn mark_one(
     kind: Record,
-    n: usize,
-    m: usize,
-    at: usize,
+    head: Head,
     before: usize,
-    x: usize,
-    y: usize,
-    v: u32,
-    next: usize,
+    entry: Entry,
     b: &mut [u8],
-) -> Step
-    requires { (n ≤ 30) × (m ≤ 30) × (length b.old ≡ 1024) }
-    ensures { (result, b.new) ≡ marked kind n m at before x y v next b.old }
+) -> Result<(usize, usize), Refusal>
+    requires { (head.rows ≤ 30) × (head.columns ≤ 30) × (length b.old ≡ 1024) }
+    ensures { (result, b.new)
+        ≡ marked kind head.rows head.columns entry.start before entry.row entry.column entry.value entry.end b.old }
 {
-    if !may_stand(kind, n, m, x, y) {
-        return no_record(off_number(kind), at);
+    if !may_stand(kind, head, entry) {
+        return Err(Refusal::at(off_reason(kind), entry.start));
     }
-    let p = 32 * x + y;
+    let p = 32 * entry.row + entry.column;
     let repeated = is_repeated(kind, b[p]);
     let lower = p < before;
     if repeated {
-        return no_record(11, at);
+        return Err(Refusal::at(Reason::Repeated, entry.start));
     }
-    if !may_write(kind, v) {
-        return no_record(13, at);
+    if !may_write(kind, entry.value) {
+        return Err(Refusal::at(Reason::RecordDirection, entry.start));
     }
     if lower {
-        return no_record(19, at);
+        return Err(Refusal::at(Reason::RecordOrder, entry.start));
     }
-    b[p] = v as u8;
-    Step::Next(next, p)
+    b[p] = entry.value as u8;
+    Ok((entry.end, p))
 }
 
 // The same; each kind has a call of its own, so that it is compiled by itself.
 fn mark(
     kind: Record,
-    n: usize,
-    m: usize,
-    at: usize,
+    head: Head,
     before: usize,
-    x: usize,
-    y: usize,
-    v: u32,
-    next: usize,
+    entry: Entry,
     b: &mut [u8],
-) -> Step
-    requires { (n ≤ 30) × (m ≤ 30) × (length b.old ≡ 1024) }
-    ensures { (result, b.new) ≡ marked kind n m at before x y v next b.old }
+) -> Result<(usize, usize), Refusal>
+    requires { (head.rows ≤ 30) × (head.columns ≤ 30) × (length b.old ≡ 1024) }
+    ensures { (result, b.new)
+        ≡ marked kind head.rows head.columns entry.start before entry.row entry.column entry.value entry.end b.old }
 {
     match kind {
-        Record::Fault => mark_one(Record::Fault, n, m, at, before, x, y, v, next, b),
-        Record::Dead => mark_one(Record::Dead, n, m, at, before, x, y, v, next, b),
-        Record::Path => mark_one(Record::Path, n, m, at, before, x, y, v, next, b),
+        Record::Fault => mark_one(Record::Fault, head, before, entry, b),
+        Record::Dead => mark_one(Record::Dead, head, before, entry, b),
+        Record::Path => mark_one(Record::Path, head, before, entry, b),
     }
 }
 
@@ -225,82 +192,66 @@ fn mark(
 fn read_record(
     kind: Record,
     s: &[u8],
-    n: usize,
-    m: usize,
+    head: Head,
     at: usize,
     before: usize,
     b: &mut [u8],
-) -> Step
-    requires { (n ≤ 30) × (m ≤ 30) × (length b.old ≡ 1024) }
-    ensures { (result, b.new) ≡ record_at kind s.now n m at before b.old }
+) -> Result<(usize, usize), Refusal>
+    requires { (head.rows ≤ 30) × (head.columns ≤ 30) × (length b.old ≡ 1024) }
+    ensures { (result, b.new) ≡ record_at kind s.now head.rows head.columns at before b.old }
 {
-    let a = formats::read_number(s, at);
-    let Number::Read(x, second) = a else {
-        return Step::Refused(formats::refusal_of(a));
+    let (row, second) = formats::read_number(s, at)?;
+    let (column, third) = formats::read_number(s, second)?;
+    let (value, end) = read_value(kind, s, third)?;
+    let entry = Entry {
+        start: at,
+        row: row as usize,
+        column: column as usize,
+        value,
+        end,
     };
-    let d = formats::read_number(s, second);
-    let Number::Read(y, third) = d else {
-        return Step::Refused(formats::refusal_of(d));
-    };
-    let e = read_value(kind, s, third);
-    let Number::Read(v, next) = e else {
-        return Step::Refused(formats::refusal_of(e));
-    };
-    mark(kind, n, m, at, before, x as usize, y as usize, v, next, b)
+    mark(kind, head, before, entry, b)
 }
 
-// Reads records from an offset on into a buffer. Before the first stands position 0: no position is lower.
+// Reads a list of records from an offset on into a buffer, as many as the head counts. Before the first stands position 0:
+// no position is lower.
 fn read_records(
     kind: Record,
     s: &[u8],
-    n: usize,
-    m: usize,
-    count: usize,
+    head: Head,
     start: usize,
     b: &mut [u8],
-) -> Step
-    requires { (n ≤ 30) × (m ≤ 30) × (length b.old ≡ 1024) }
-    ensures { (result, b.new) ≡ records_at kind s.now n m count start 0 b.old }
+) -> Result<(usize, usize), Refusal>
+    requires { (head.rows ≤ 30) × (head.columns ≤ 30) × (length b.old ≡ 1024) }
+    ensures { (result, b.new) ≡ records_at kind s.now head.rows head.columns head.count start 0 b.old }
 {
-    let mut left = count;
     let mut at = start;
     let mut before = 0;
-    while 0 < left {
-        let a = read_record(kind, s, n, m, at, before, b);
-        let Step::Next(next, p) = a else {
-            return a;
-        };
+    for _ in 0..head.count {
+        let (next, p) = read_record(kind, s, head, at, before, b)?;
         at = next;
         before = p;
-        left -= 1;
     }
-    Step::Next(at, before)
-}
-
-// Copies a whole buffer.
-fn copy(to: &mut [u8], from: [u8; 1024])
-    requires { length to.old ≡ 1024 }
-    ensures { to.new ≡ from }
-{
-    for p in 0..1024 {
-        to[p] = from[p];
-    }
+    Ok((at, before))
 }
 
 // Fills the lent buffer where the file ends there.
-fn fill(s: &[u8], head: Head, trials: u32, end: usize, b: [u8; 1024], lent: &mut [u8]) -> FileRead
+fn fill(
+    s: &[u8],
+    head: Head,
+    trials: u32,
+    end: usize,
+    b: [u8; 1024],
+    lent: &mut [u8],
+) -> Result<(Head, u32), Refusal>
     requires { length lent.old ≡ 1024 }
-    ensures { (p : ℕ) → (result, lent.new) ≡ whole_file s.now head trials lent.old (Next end p, b) }
+    ensures { (p : ℕ) → (result, lent.new) ≡ whole_file s.now head trials lent.old (Ok (end, p), b) }
 {
     if end < s.len() {
-        return FileRead::Refused(Refusal {
-            number: 12,
-            place: end,
-            second: 0,
-        });
+        return Err(Refusal::at(Reason::Trailing, end));
     }
-    copy(lent, b);
-    FileRead::File(head, trials)
+    lent.copy_from_slice(&b);
+    Ok((head, trials))
 }
 
 // Reads the second list of a map, of `more` dead processors, into a grid that has its faults, and fills the lent buffer.
@@ -311,44 +262,38 @@ fn read_dead(
     start: usize,
     faults: [u8; 1024],
     lent: &mut [u8],
-) -> FileRead
+) -> Result<(Head, u32), Refusal>
     requires { (head.rows ≤ 30) × (head.columns ≤ 30) × (length lent.old ≡ 1024) }
     ensures { (result, lent.new) ≡ dead_at s.now head lent.old more start faults }
 {
     let mut grid = faults;
-    match read_records(
-        Record::Dead,
-        s,
-        head.rows,
-        head.columns,
-        more,
-        start,
-        &mut grid,
-    ) {
-        Step::Next(end, _) => fill(s, head, 0, end, grid, lent),
-        Step::Refused(r) => FileRead::Refused(r),
-    }
+    let list = Head {
+        rows: head.rows,
+        columns: head.columns,
+        count: more,
+    };
+    let (end, _) = read_records(Record::Dead, s, list, start, &mut grid)?;
+    fill(s, head, 0, end, grid, lent)
 }
 
 // Reads what follows the first list of a map: nothing, or the second list.
-fn read_second(s: &[u8], head: Head, end: usize, grid: [u8; 1024], lent: &mut [u8]) -> FileRead
+fn read_second(
+    s: &[u8],
+    head: Head,
+    end: usize,
+    grid: [u8; 1024],
+    lent: &mut [u8],
+) -> Result<(Head, u32), Refusal>
     requires { (head.rows ≤ 30) × (head.columns ≤ 30) × (head.count < 4294967296) × (length lent.old ≡ 1024) }
-    ensures { (p : ℕ) → (result, lent.new) ≡ second_at s.now head lent.old (Next end p, grid) }
+    ensures { (p : ℕ) → (result, lent.new) ≡ second_at s.now head lent.old (Ok (end, p), grid) }
 {
     if s.len() <= end {
-        copy(lent, grid);
-        return FileRead::File(head, 0);
+        lent.copy_from_slice(&grid);
+        return Ok((head, 0));
     }
-    let a = formats::read_number(s, end);
-    let Number::Read(more, start) = a else {
-        return FileRead::Refused(formats::refusal_of(a));
-    };
+    let (more, start) = formats::read_number(s, end)?;
     if more == 0 {
-        return FileRead::Refused(Refusal {
-            number: 12,
-            place: end,
-            second: 0,
-        });
+        return Err(Refusal::at(Reason::Trailing, end));
     }
     let both = Head {
         rows: head.rows,
@@ -359,14 +304,17 @@ fn read_second(s: &[u8], head: Head, end: usize, grid: [u8; 1024], lent: &mut [u
 }
 
 // Reads what follows the paths of a plan: T, and the end of the file.
-fn read_trials(s: &[u8], head: Head, at: usize, directions: [u8; 1024], lent: &mut [u8]) -> FileRead
+fn read_trials(
+    s: &[u8],
+    head: Head,
+    at: usize,
+    directions: [u8; 1024],
+    lent: &mut [u8],
+) -> Result<(Head, u32), Refusal>
     requires { length lent.old ≡ 1024 }
-    ensures { (p : ℕ) → (result, lent.new) ≡ trials_at s.now head lent.old (Next at p, directions) }
+    ensures { (p : ℕ) → (result, lent.new) ≡ trials_at s.now head lent.old (Ok (at, p), directions) }
 {
-    let a = formats::read_number(s, at);
-    let Number::Read(trials, end) = a else {
-        return FileRead::Refused(formats::refusal_of(a));
-    };
+    let (trials, end) = formats::read_number(s, at)?;
     fill(s, head, trials, end, directions, lent)
 }
 
@@ -378,9 +326,9 @@ fn read_rest(
     end: usize,
     b: [u8; 1024],
     lent: &mut [u8],
-) -> FileRead
+) -> Result<(Head, u32), Refusal>
     requires { (head.rows ≤ 30) × (head.columns ≤ 30) × (head.count < 4294967296) × (length lent.old ≡ 1024) }
-    ensures { (p : ℕ) → (result, lent.new) ≡ rest_at kind s.now head lent.old (Next end p, b) }
+    ensures { (p : ℕ) → (result, lent.new) ≡ rest_at kind s.now head lent.old (Ok (end, p), b) }
 {
     match kind {
         Kind::Map => read_second(s, head, end, b, lent),
@@ -389,41 +337,32 @@ fn read_rest(
 }
 
 // Reads what follows the head of a file.
-fn read_body(kind: Kind, s: &[u8], head: Head, start: usize, lent: &mut [u8]) -> FileRead
+fn read_body(
+    kind: Kind,
+    s: &[u8],
+    head: Head,
+    start: usize,
+    lent: &mut [u8],
+) -> Result<(Head, u32), Refusal>
     requires { (head.rows ≤ 30) × (head.columns ≤ 30) × (head.count < 4294967296) × (length lent.old ≡ 1024) }
     ensures { (result, lent.new) ≡ body_at kind s.now head lent.old start }
 {
     let mut b = blank_buffer(kind, head.rows, head.columns);
-    let first = formats::first_list(kind);
-    match read_records(first, s, head.rows, head.columns, head.count, start, &mut b) {
-        Step::Next(end, _) => read_rest(kind, s, head, end, b, lent),
-        Step::Refused(r) => FileRead::Refused(r),
-    }
+    let first = kind.first_list();
+    let (end, _) = read_records(first, s, head, start, &mut b)?;
+    read_rest(kind, s, head, end, b, lent)
 }
 
 // Reads a file of either kind.
-fn read_file(kind: Kind, s: &[u8], lent: &mut [u8]) -> FileRead
+fn read_file(kind: Kind, s: &[u8], lent: &mut [u8]) -> Result<(Head, u32), Refusal>
     ensures { (result, lent.new) ≡ read_file kind s.now lent.old }
 {
     if lent.len() != 1024 {
-        return FileRead::Refused(Refusal {
-            number: 2,
-            place: 0,
-            second: 0,
-        });
+        return Err(Refusal::at(Reason::BufferLength, 0));
     }
-    let a = read_size(s, 0);
-    let Number::Read(n, second) = a else {
-        return FileRead::Refused(formats::refusal_of(a));
-    };
-    let b = read_size(s, second);
-    let Number::Read(m, third) = b else {
-        return FileRead::Refused(formats::refusal_of(b));
-    };
-    let d = formats::read_number(s, third);
-    let Number::Read(count, start) = d else {
-        return FileRead::Refused(formats::refusal_of(d));
-    };
+    let (n, second) = read_size(s, 0)?;
+    let (m, third) = read_size(s, second)?;
+    let (count, start) = formats::read_number(s, third)?;
     let head = Head {
         rows: n as usize,
         columns: m as usize,
@@ -432,28 +371,19 @@ fn read_file(kind: Kind, s: &[u8], lent: &mut [u8]) -> FileRead
     read_body(kind, s, head, start, lent)
 }
 
-// The answer of a map's reader, which has no T.
-fn map_of(a: FileRead) -> MapRead
-    ensures { result ≡ map_of a }
-{
-    match a {
-        FileRead::File(head, _) => MapRead::File(head),
-        FileRead::Refused(r) => MapRead::Refused(r),
-    }
-}
-
 // The operations.
 
-// Reads a map file into a grid.
-pub fn read_map(s: &[u8], grid: &mut [u8]) -> MapRead
+// Reads a map file into a grid: N, M and the count, or the refusal. A map has no T.
+pub fn read_map(s: &[u8], grid: &mut [u8]) -> Result<Head, Refusal>
     ensures { (told_map result ≡ told_map (read_map s.now grid.old).0)
         × (grid.new ≡ (read_map s.now grid.old).1) }
 {
-    map_of(read_file(Kind::Map, s, grid))
+    let (head, _) = read_file(Kind::Map, s, grid)?;
+    Ok(head)
 }
 
-// Reads a plan file into directions.
-pub fn read_plan(s: &[u8], directions: &mut [u8]) -> FileRead
+// Reads a plan file into directions: N, M and the count, with T, the trials on record, or the refusal.
+pub fn read_plan(s: &[u8], directions: &mut [u8]) -> Result<(Head, u32), Refusal>
     ensures { (told result ≡ told (read_plan s.now directions.old).0)
         × (directions.new ≡ (read_plan s.now directions.old).1) }
 {

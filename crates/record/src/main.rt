@@ -1,106 +1,86 @@
 // Writes the plan file of the map file on standard input, of which no more than 4,096 bytes are read, to standard output, with
 // the trials on record. The first byte on descriptor 3 says by which planner. Why there is no plan file goes to standard error,
-// and nothing to standard output then.
+// and nothing to standard output then; bin/record puts it in words.
 #![tactic(auto)]
 
 use array::Refusal;
 use exact::Decision;
-use readers::{Head, MapRead};
+use readers::Head;
 use repair::{Answer, Planner};
+use std::io::Result;
 use trials::Outcome;
-use writers::FileWritten;
 
-// The descriptors of standard error, standard input and standard output.
-const STDERR_FILENO: i32 = 2;
-
+// The descriptors of standard input and of the letter that says by which planner.
 const STDIN_FILENO: i32 = 0;
 
-const STDOUT_FILENO: i32 = 1;
-
-// The descriptor that says by which planner.
-const CHOICE: i32 = 3;
+const CHOICE_FILENO: i32 = 3;
 
 // The limit of trials, which is that of the listing.
 const LIMIT: u32 = 1000000;
 
-// Tells words.
-fn say(words: &[u8]) {
-    io::write_all(STDERR_FILENO, words);
-}
-
-// Tells a number.
-fn say_number(k: usize) {
-    io::print_decimal(STDERR_FILENO, k as u64);
-}
-
-// Tells a line of words and a number.
-fn say_count(words: &[u8], k: usize) {
-    say(words);
-    say_number(k);
-    say(b"\n");
-}
-
-// Tells the number and the place of a refused map file; bin/record puts them in words.
-fn say_refusal(r: Refusal) {
-    say(b"refused ");
-    say_number(r.number as usize);
-    say_count(b" at byte ", r.place);
-}
-
-// Writes the plan file of directions, over room for it.
-fn write_file(n: usize, m: usize, directions: &[u8], trials: u32, file: &mut [u8]) {
-    let a = writers::write_plan(n, m, directions, trials, file);
-    match a {
-        FileWritten::Length(k) => {
-            if !io::write_all(STDOUT_FILENO, &file[..k]) {
-                say(b"cut\n");
-            }
-        }
-        FileWritten::Refused(r) => say_count(b"unwritten ", r.number as usize),
-    }
+// Tells the number and the place of a refused map file.
+fn tell_refusal(rt: &impl Eprint, r: Refusal) -> Result<()> {
+    eprintln!(rt; "refused {} at byte {}", r.number(), r.place)
 }
 
 // Writes the plan file of a repaired map, which has at most 2,707 bytes.
-fn write_repaired(head: Head, directions: &[u8], trials: u32) {
+fn write_plan(
+    rt: &(impl Print + Eprint),
+    head: Head,
+    directions: &[u8],
+    trials: u32,
+) -> Result<()> {
     let mut file = [0u8; 4096];
-    write_file(head.rows, head.columns, directions, trials, &mut file);
+    match writers::write_plan(head.rows, head.columns, directions, trials, &mut file) {
+        Ok(k) => match rt.write_all(&file[..k]) {
+            Ok(()) => Ok(()),
+            Err(_) => eprintln!(rt; "cut"),
+        },
+        Err(r) => eprintln!(rt; "unwritten {}", r.number()),
+    }
 }
 
 // Writes the plan file where trials found a plan.
-fn write_outcome(head: Head, o: Outcome, directions: &[u8]) {
+fn write_outcome(
+    rt: &(impl Print + Eprint),
+    head: Head,
+    o: Outcome,
+    directions: &[u8],
+) -> Result<()> {
     match o {
-        Outcome::Repaired(t) => write_repaired(head, directions, t),
-        Outcome::Beyond(t) => say_count(b"beyond ", t as usize),
-        Outcome::Spent(t) => say_count(b"spent ", t as usize),
+        Outcome::Repaired(t) => write_plan(rt, head, directions, t),
+        Outcome::Beyond(t) => eprintln!(rt; "beyond {t}"),
+        Outcome::Spent(t) => eprintln!(rt; "spent {t}"),
     }
 }
 
 // Writes the plan file where the exact planner found a plan; it counts no trials, so there are 0 on record.
-fn write_decision(head: Head, d: Decision, directions: &[u8]) {
+fn write_decision(
+    rt: &(impl Print + Eprint),
+    head: Head,
+    d: Decision,
+    directions: &[u8],
+) -> Result<()> {
     match d {
-        Decision::Repaired => write_repaired(head, directions, 0),
-        Decision::Beyond => say(b"beyond\n"),
+        Decision::Repaired => write_plan(rt, head, directions, 0),
+        Decision::Beyond => eprintln!(rt; "beyond"),
     }
 }
 
 // Plans a map that was read.
-fn plan_map(planner: Planner, head: Head, grid: &[u8]) {
-    let n = head.rows;
-    let m = head.columns;
+fn plan_map(rt: &(impl Print + Eprint), planner: Planner, head: Head, grid: &[u8]) -> Result<()> {
     let mut directions = [0u8; 1024];
-    match repair::plan_by(planner, n, m, grid, &mut directions, LIMIT) {
-        Answer::Planned(o) => write_outcome(head, o, &directions),
-        Answer::Decided(d) => write_decision(head, d, &directions),
-        Answer::Refused(r) => say_refusal(r),
-    }
-}
-
-// Plans a map file.
-fn plan_file(planner: Planner, s: &[u8]) {
-    let mut grid = [2u8; 1024];
-    match readers::read_map(s, &mut grid) {
-        MapRead::File(head) => plan_map(planner, head, &grid),
-        MapRead::Refused(r) => say_refusal(r),
+    match repair::plan_by(
+        planner,
+        head.rows,
+        head.columns,
+        grid,
+        &mut directions,
+        LIMIT,
+    ) {
+        Answer::Planned(o) => write_outcome(rt, head, o, &directions),
+        Answer::Decided(d) => write_decision(rt, head, d, &directions),
+        Answer::Refused(r) => tell_refusal(rt, r),
     }
 }
 
@@ -113,10 +93,14 @@ fn planner_of(letter: u8) -> Planner {
     }
 }
 
-fn main() {
+fn main(rt: HostRuntime) -> Result<()> {
     let mut choice = [0u8; 1];
-    io::read_full(CHOICE, &mut choice);
+    io::read_full(CHOICE_FILENO, &mut choice);
     let mut buf = io::buffer();
     let n = io::read_full(STDIN_FILENO, &mut buf);
-    plan_file(planner_of(choice[0]), &buf[..n]);
+    let mut grid = [2u8; 1024];
+    match readers::read_map(&buf[..n], &mut grid) {
+        Ok(head) => plan_map(&rt, planner_of(choice[0]), head, &grid),
+        Err(r) => tell_refusal(&rt, r),
+    }
 }

@@ -1,9 +1,11 @@
 -- `told` loses nothing of the planner's and the follower's answers.
 -- Assumes nothing.
+use Rattle.std.specs.Prelude.{Ok, Err}
 use Prim.Native.Nat.{ℕ}
 use mathlib.Core.Path.{◌≡◌, refl, sym, ap, ◌∙◌}
 use native.Mathlib.Omega.{arith}
 use lib.ListN.{length}
+use Rattle.array.specs.Reason.{number_of}
 use Rattle.array.specs.Tests.{Told, accepts, refuses, LosesNothing}
 use Rattle.array.proofs.Answers.{refusal_kept}
 use Rattle.trials.specs.declared.Outcome.{Outcome}
@@ -12,7 +14,6 @@ use Rattle.exact.specs.declared.Decision.{Decision}
 use Rattle.exact.specs.declared.Decision.TheVariants as decision
 use Rattle.track.specs.Follower as follower
 use Rattle.track.specs.declared.Landing.{Landing}
-use Rattle.track.specs.declared.Followed.TheVariants as follow
 use Rattle.repair.specs.Operations.{told, outcome_told, decision_told}
 use Rattle.repair.specs.Answers.{AnswersKept}
 use Rattle.repair.specs.declared.Answer.TheVariants.{Planned, Decided, Refused}
@@ -65,10 +66,10 @@ planner_kept (Planned o) (Planned p) h = ap Planned (outcome_kept o p h)
 planner_kept (Decided d) (Decided e) h = ap Decided (decision_kept d e h)
 planner_kept (Planned o) (Decided e) h = absurd (apart o e h)
 planner_kept (Decided d) (Planned p) h = absurd (apart p d (sym h))
-planner_kept (Decided d) (Refused s) h = absurd (decision_refused d s.number s.place s.second h)
-planner_kept (Refused r) (Decided e) h = absurd (decision_refused e r.number r.place r.second (sym h))
-planner_kept (Planned o) (Refused s) h = absurd (never_refused o s.number s.place s.second h)
-planner_kept (Refused r) (Planned p) h = absurd (never_refused p r.number r.place r.second (sym h))
+planner_kept (Decided d) (Refused s) h = absurd (decision_refused d (number_of s.reason) s.place s.second h)
+planner_kept (Refused r) (Decided e) h = absurd (decision_refused e (number_of r.reason) r.place r.second (sym h))
+planner_kept (Planned o) (Refused s) h = absurd (never_refused o (number_of s.reason) s.place s.second h)
+planner_kept (Refused r) (Planned p) h = absurd (never_refused p (number_of r.reason) r.place r.second (sym h))
 planner_kept (Refused r) (Refused s) h = ap Refused (refusal_kept r s h)
 
 abbrev landed : ℕ → ℕ → ℕ → Landing
@@ -78,10 +79,10 @@ same_landing : (p q s t k l : ℕ) → p ≡ q → s ≡ t → k ≡ l → lande
 same_landing p q s t k l a b c = rw (a, b, c)
 
 follower_kept : LosesNothing follower.told
-follower_kept (follow.Entered a) (follow.Entered b) h = ap follow.Entered (same_landing _ _ _ _ _ _ (cc) (cc) (cc))
-follower_kept (follow.Entered a) (follow.Refused s) h = let z : ◌≡◌ {A = ℕ} 0 1 = cc in absurd (omega arith)
-follower_kept (follow.Refused r) (follow.Entered b) h = let z : ◌≡◌ {A = ℕ} 0 1 = cc in absurd (omega arith)
-follower_kept (follow.Refused r) (follow.Refused s) h = ap follow.Refused (refusal_kept r s h)
+follower_kept (Ok a) (Ok b) h = ap Ok (same_landing _ _ _ _ _ _ (cc) (cc) (cc))
+follower_kept (Ok a) (Err s) h = let z : ◌≡◌ {A = ℕ} 0 1 = cc in absurd (omega arith)
+follower_kept (Err r) (Ok b) h = let z : ◌≡◌ {A = ℕ} 0 1 = cc in absurd (omega arith)
+follower_kept (Err r) (Err s) h = ap Err (refusal_kept r s h)
 
 pub answers_kept : AnswersKept
 answers_kept = record { planner = planner_kept; follower = follower_kept }

@@ -1,5 +1,6 @@
 -- Laws of the operations: the lengths of the lent buffers, and an answer by the verdict of its tests.
 -- Assumes nothing.
+use Rattle.std.specs.Prelude.{Ok, Err}
 use mathlib.Core.Path.{◌≡◌, sym, ap, ◌∙◌}
 use mathlib.Core.Bool.{Bool, true, ◌&&◌}
 use mathlib.Core.List.{List}
@@ -10,17 +11,15 @@ use lib.ListN.{length}
 use Rattle.array.specs.Place.{inner}
 use Rattle.array.specs.Buffer.{long}
 use Rattle.array.specs.declared.Refusal.{Refusal}
-use Rattle.array.specs.declared.Verdict.{Verdict}
-use Rattle.array.specs.declared.Verdict.TheVariants.{Accepted, Refused}
+use Rattle.array.specs.Tests.{Verdict}
 use Rattle.array.proofs.Bools.{and_true}
 use Rattle.array.proofs.Verdicts.{both_accepted, accepted_not}
 use Rattle.plans.specs.Check.{plan_tests}
 use Rattle.track.specs.Ports.{Wafer}
-use Rattle.track.specs.declared.Followed.{Followed}
+use Rattle.track.specs.Follower.{Followed}
 use Rattle.repair.specs.Operations.{answer_after, link_tests, followed_after}
 use Rattle.repair.specs.declared.Answer.{Answer}
 use Rattle.repair.specs.declared.Answer.TheVariants as answer
-use Rattle.track.specs.declared.Followed.TheVariants as follow
 
 -- the first two of some buffers whose lengths are all tested
 pub front_long : (a b : List ℕ) (others : Bool) → (long a && (long b && others)) ≡ true → (length a ≡ 1024) × (length b ≡ 1024)
@@ -38,21 +37,21 @@ back_long a b c d h = two_long c d (and_true (long b) _ (and_true (long a) _ h).
 
 -- A callee answered the verdict v, which t defines.
 module _ {v t : Verdict} (e : v ≡ t) where
-  pub answer_refused : (a : Answer) {r : Refusal} → v ≡ Refused r → answer.Refused r ≡ answer_after t a
+  pub answer_refused : (a : Answer) {r : Refusal} → v ≡ Err r → answer.Refused r ≡ answer_after t a
   answer_refused a h = ap (λ (w : Verdict). answer_after w a) (sym h ∙ e)
 
-  pub answer_accepted : (a : Answer) {b : Answer} → v ≡ Accepted → b ≡ a → b ≡ answer_after t a
+  pub answer_accepted : (a : Answer) {b : Answer} → v ≡ Ok tt → b ≡ a → b ≡ answer_after t a
   answer_accepted a h q = q ∙ ap (λ (w : Verdict). answer_after w a) (sym h ∙ e)
 
-  pub follow_refused : (f : Followed) {r : Refusal} → v ≡ Refused r → follow.Refused r ≡ followed_after t f
+  pub follow_refused : (f : Followed) {r : Refusal} → v ≡ Err r → Err r ≡ followed_after t f
   follow_refused f h = ap (λ (w : Verdict). followed_after w f) (sym h ∙ e)
 
-  pub follow_accepted : (f : Followed) {g : Followed} → v ≡ Accepted → g ≡ f → g ≡ followed_after t f
+  pub follow_accepted : (f : Followed) {g : Followed} → v ≡ Ok tt → g ≡ f → g ≡ followed_after t f
   follow_accepted f h q = q ∙ ap (λ (w : Verdict). followed_after w f) (sym h ∙ e)
 
 -- what accepted tests of a link say: 1 to 7 pass, and the cell and the side exist
-pub link_tested : (w : Wafer) (right : Bool) (cell side : ℕ) → link_tests w right cell side ≡ Accepted
-    → (plan_tests w.rows w.columns right w.grid w.directions ≡ Accepted) × ((inner w.rows w.columns cell && ltb side 2) ≡ true)
+pub link_tested : (w : Wafer) (right : Bool) (cell side : ℕ) → link_tests w right cell side ≡ Ok tt
+    → (plan_tests w.rows w.columns right w.grid w.directions ≡ Ok tt) × ((inner w.rows w.columns cell && ltb side 2) ≡ true)
 unfolding link_tests
 link_tested w right cell side h =
     let a = both_accepted _ _ h in

@@ -1,6 +1,7 @@
 -- Demand 3: one statement about a whole run, for any planner, every well-formed map, every limit and every content of
 -- the lent buffers; and the planners agree on what is beyond repair.
 -- Assumes nothing.
+use Rattle.std.specs.Prelude.{Ok}
 use Prim.Native.Nat.{ℕ, ◌<◌, ◌≤◌}
 use mathlib.Core.Path.{◌≡◌, refl, sym, ap, subst, ◌∙◌}
 use mathlib.Core.Bool.{true, ◌&&◌, true≢false, false≢true}
@@ -8,8 +9,7 @@ use mathlib.Core.Logic.{◌⊎◌, inl, inr, ⊎_elim, ◌↔◌}
 use mathlib.Core.List.{List, [], ◌∷◌}
 use borrow.Author.Tests.{le-leb}
 use Rattle.array.specs.Buffer.{long, all_long, written}
-use Rattle.array.specs.declared.Verdict.{Verdict}
-use Rattle.array.specs.declared.Verdict.TheVariants.{Accepted}
+use Rattle.array.specs.Tests.{Verdict}
 use Rattle.array.proofs.Bools.{and_true, by_lt}
 use Rattle.array.proofs.Formed.{formed_lent, grid_and}
 use Rattle.plans.specs.Faults.{faults, directions_at}
@@ -56,7 +56,7 @@ module _ (g : Given) (good : Good g) where
   lengths = and_true (long g.directions) _ good.lent
 
   -- the planner accepts the map
-  map_passes : Rattle.array.specs.Map.map_test g.n g.m (g.grid ∷ g.directions ∷ []) g.grid ≡ Accepted
+  map_passes : Rattle.array.specs.Map.map_test g.n g.m (g.grid ∷ g.directions ∷ []) g.grid ≡ Ok tt
   map_passes =
       formed_lent g.n g.m g.grid (long g.grid && (long g.directions && true)) good.map
       (grid_and g.n g.m g.grid (long g.directions && true) good.map (rw lengths.0))
@@ -163,7 +163,7 @@ module _ (g : Given) (good : Good g) where
     rest_are : rest_of g ≡ xs
     rest_are = ap (λ (b : List ℕ). directions_at b (left_of g)) dirs_are ∙ rule.rest_held (count search) xs r.is
 
-    checked : check_plan n m grid dirs ≡ Accepted
+    checked : check_plan n m grid dirs ≡ Ok tt
     checked = ap (check_plan n m grid) dirs_are ∙ rule.checked (count search) xs r.is
 
     -- by the trial rule over all faults the directions are the first plan

@@ -1,5 +1,6 @@
 -- Placement, routing and follower serve every plan that the plan check accepts.
 -- Assumes nothing.
+use Rattle.std.specs.Prelude.{Ok}
 use Prim.Native.Nat.{ℕ, ◌<◌}
 use mathlib.Core.Path.{◌≡◌, refl, sym, ap, subst, ◌∙◌}
 use mathlib.Core.Bool.{true, not, ◌&&◌}
@@ -10,8 +11,7 @@ use lib.ListN.{length, get_or}
 use Rattle.array.specs.Place.{position, row, column, processor}
 use Rattle.array.specs.Buffer.{long, all_long, written}
 use Rattle.array.specs.Map.{healthy}
-use Rattle.array.specs.declared.Verdict.{Verdict}
-use Rattle.array.specs.declared.Verdict.TheVariants.{Accepted}
+use Rattle.array.specs.Tests.{Verdict}
 use Rattle.array.proofs.Bools.{and_true, and_both}
 use Rattle.array.proofs.Verdicts.{accept_both, false_accepted}
 use Rattle.array.proofs.Fills.{tabulate_length}
@@ -20,7 +20,9 @@ use Rattle.plans.specs.Check.{check_plan, plan_test, HoldsPlan}
 use Rattle.plans.proofs.Accepts.{accepts_plans, plan_lent}
 use Rattle.track.specs.Placement.{placement}
 use Rattle.track.specs.Letters.{across_letters, down_letters}
-use Rattle.track.specs.Ports.{Wafer, Compass, Processor, ◌at◌}
+use Rattle.track.specs.Ports.{Wafer, ◌at◌}
+use Rattle.track.specs.declared.ports.Compass.{Compass}
+use Rattle.track.specs.declared.ports.Node.TheVariants.{Processor}
 use Rattle.track.specs.Link.{Link}
 use Rattle.track.specs.Pieces.{Piece, pieces, Same}
 use Rattle.track.specs.Follower.{processor_of, out_of, followed, cell_test}
@@ -34,7 +36,7 @@ use Rattle.repair.specs.InUse.{Use, placing, places_held, routing, routed, follo
 use Rattle.repair.specs.InUse.{Reached, NeighbourLink, pieces_of, InUse, PlansServe}
 use Rattle.track.specs.Theorems as track
 
-module _ (u : Use) (checked : check_plan u.n u.m u.grid u.directions ≡ Accepted)
+module _ (u : Use) (checked : check_plan u.n u.m u.grid u.directions ≡ Ok tt)
     (lent : all_long (u.places ∷ u.across ∷ u.down ∷ []) ≡ true) where
   abbrev n : ℕ
   n = u.n
@@ -59,16 +61,16 @@ module _ (u : Use) (checked : check_plan u.n u.m u.grid u.directions ≡ Accepte
   holds = (accepts_plans n m grid dirs).0 checked
 
   -- 1 to 7 pass, whichever other buffers of their length are lent
-  passes : (others : List (List ℕ)) → all_long others ≡ true → plan_test n m (grid ∷ dirs ∷ others) grid dirs ≡ Accepted
+  passes : (others : List (List ℕ)) → all_long others ≡ true → plan_test n m (grid ∷ dirs ∷ others) grid dirs ≡ Ok tt
   passes others h =
       plan_lent n m grid dirs (long grid && (long dirs && all_long others)) checked
       (grid_and n m grid (long dirs && all_long others) holds.map (rw (eq-eqb (length dirs) 1024 holds.length_right, h)))
 
-  placed : placing u ≡ Accepted
+  placed : placing u ≡ Ok tt
   unfolding place_cells
   placed = passes (u.places ∷ []) (rw lengths.0)
 
-  routed_right : routing u ≡ Accepted
+  routed_right : routing u ≡ Ok tt
   unfolding route_switches
   routed_right = passes (u.across ∷ u.down ∷ []) lengths.1
 
@@ -110,7 +112,7 @@ module _ (u : Use) (checked : check_plan u.n u.m u.grid u.directions ≡ Accepte
   leaves i j side k l port (lower c h) = (c, omega arith)
 
   -- 15 and 16 pass
-  cell_passes : (i j side : ℕ) → Cell w i j → side < 2 → cell_test w (position i j) side ≡ Accepted
+  cell_passes : (i j side : ℕ) → Cell w i j → side < 2 → cell_test w (position i j) side ≡ Ok tt
   cell_passes i j side c h =
       false_accepted 15 0 0 (ap not (and_both _ _ (inner_cell w wafer_routed i j c) (lt-ltb side 2 h)))
 

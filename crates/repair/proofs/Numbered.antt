@@ -1,15 +1,16 @@
 -- The numbers of the planners and of the follower are document 01's.
 -- Assumes nothing.
+use Rattle.std.specs.Prelude.{Ok, Err}
 use Prim.Native.Nat.{ℕ}
 use mathlib.Core.Path.{◌≡◌, refl, ap}
 use mathlib.Core.Logic.{◌⊎◌, inl, inr}
 use mathlib.Core.Bool.{Bool}
 use mathlib.Core.List.{List}
 use native.Mathlib.Omega.{arith}
+use Rattle.array.specs.Reason.{number_of}
 use Rattle.array.specs.Tests.{refusal, refuses_as, Numbered}
 use Rattle.array.specs.declared.Refusal.{Refusal}
-use Rattle.array.specs.declared.Verdict.{Verdict}
-use Rattle.array.specs.declared.Verdict.TheVariants.{Accepted, Refused}
+use Rattle.array.specs.Tests.{Verdict}
 use Rattle.array.proofs.Numbered.{NumberedAs, NumberedVerdict, numbers, map_numbered}
 use Rattle.plans.proofs.Numbered.{plan_numbered}
 use Rattle.trials.specs.declared.Outcome.{Outcome}
@@ -21,7 +22,7 @@ use Rattle.exact.specs.declared.Decision.{Decision}
 use Rattle.exact.specs.declared.Decision.TheVariants as decision
 use Rattle.track.specs.Ports.{Wafer}
 use Rattle.track.specs.Follower.{followed}
-use Rattle.track.specs.declared.Followed.{Followed}
+use Rattle.track.specs.Follower.{Followed}
 use Rattle.track.proofs.Follows.{follower_refuses}
 use Rattle.repair.specs.Operations.{told, answer_by, answer_after, plan_by, link_tests, followed_after, follow_link}
 use Rattle.repair.specs.declared.Planner.{Planner}
@@ -29,7 +30,6 @@ use Rattle.repair.specs.declared.Planner.TheVariants.{Trials, Quick, Exact}
 use Rattle.repair.specs.declared.Answer.{Answer}
 use Rattle.repair.specs.declared.Answer.TheVariants.{Planned, Decided}
 use Rattle.track.specs.Follower as links
-use Rattle.track.specs.declared.Followed.TheVariants as follow
 
 planned_numbered : (o : Outcome) → NumberedAs told (Planned o)
 planned_numbered (Repaired t) = search numbers
@@ -46,8 +46,8 @@ answer_numbered Quick limit s = planned_numbered (outcome limit s)
 answer_numbered Exact limit s = decided_numbered (decided s)
 
 numbered_answer : (v : Verdict) → NumberedVerdict v → (a : Answer) → NumberedAs told a → NumberedAs told (answer_after v a)
-numbered_answer (Refused r) h a k = record { numbered = h.numbered }
-numbered_answer Accepted h a k = k
+numbered_answer (Err r) h a k = record { numbered = h.numbered }
+numbered_answer (Ok tt) h a k = k
 
 pub plan_numbered_by : (pl : Planner) (n m : ℕ) (grid directions : List ℕ) (limit : ℕ)
     → NumberedAs told (plan_by pl n m grid directions limit)
@@ -59,18 +59,18 @@ unfolding link_tests
 tests_numbered w right cell side = search (numbers, plan_numbered)
 
 either : (r : Refusal) → (r ≡ refusal 17 r.place 0) ⊎ (r ≡ refusal 18 r.place 0) → Numbered (refuses_as r)
-either r (inl e) = omega (arith, ap (λ (x : Refusal). x.number) e)
-either r (inr e) = omega (arith, ap (λ (x : Refusal). x.number) e)
+either r (inl e) = omega (arith, ap (λ (x : Refusal). number_of x.reason) e)
+either r (inr e) = omega (arith, ap (λ (x : Refusal). number_of x.reason) e)
 
 followed_numbered : (w : Wafer) (cell side : ℕ) (f : Followed) → followed w cell side ≡ f → NumberedAs links.told f
-followed_numbered w cell side (follow.Entered l) e = search numbers
-followed_numbered w cell side (follow.Refused r) e =
+followed_numbered w cell side (Ok l) e = search numbers
+followed_numbered w cell side (Err r) e =
     record { numbered = either r (follower_refuses.no_other w cell side r e) }
 
 numbered_after : (v : Verdict) (f : Followed) → NumberedVerdict v → NumberedAs links.told f
     → NumberedAs links.told (followed_after v f)
-numbered_after Accepted f h g = g
-numbered_after (Refused r) f h g = record { numbered = h.numbered }
+numbered_after (Ok tt) f h g = g
+numbered_after (Err r) f h g = record { numbered = h.numbered }
 
 pub follow_link_numbered : (w : Wafer) (cell side : ℕ) → NumberedAs links.told (follow_link w cell side)
 unfolding follow_link

@@ -1,6 +1,7 @@
 -- What each planner gives on a well-formed map: directions that complete what it keeps to a plan, or exhaustion where there
 -- is none.
 -- Assumes nothing.
+use Rattle.std.specs.Prelude.{Ok}
 use Prim.Native.Nat.{ℕ}
 use mathlib.Core.Path.{◌≡◌, refl, sym, ap, subst, ◌∙◌}
 use mathlib.Core.Bool.{Bool, true, false, cond, false≢true}
@@ -10,7 +11,6 @@ use borrow.Author.Tests.{le-leb}
 use lib.ListN.{length}
 use Rattle.array.specs.Buffer.{zeros}
 use Rattle.array.specs.Map.{well_formed}
-use Rattle.array.specs.declared.Verdict.TheVariants.{Accepted}
 use Rattle.array.proofs.Formed.{formed}
 use Rattle.plans.specs.Faults.{faults, directions_at}
 use Rattle.plans.specs.Plan.{Plan, EveryChoiceBlocked}
@@ -38,14 +38,14 @@ held_by pl n m grid xs = plan_buffer (kept_by pl n m grid) (left_by pl n m grid)
 pub record PlannerRule (pl : Planner) (n m : ℕ) (grid : List ℕ) : Type 0 where
   -- where the trials find directions, the buffer passes the plan check, and holds them
   pub checked : (k : ℕ) (xs : List ℕ) → planned_by pl n m grid ≡ found k xs
-      → check_plan n m grid (held_by pl n m grid xs) ≡ Accepted
+      → check_plan n m grid (held_by pl n m grid xs) ≡ Ok tt
   pub rest_held : (k : ℕ) (xs : List ℕ) → planned_by pl n m grid ≡ found k xs
       → directions_at (held_by pl n m grid xs) (left_by pl n m grid) ≡ xs
   -- they are exhausted exactly where every choice is blocked
   pub none_found : (k : ℕ) → planned_by pl n m grid ≡ exhausted k → EveryChoiceBlocked n m grid
   pub none_there : EveryChoiceBlocked n m grid → planned_by pl n m grid ≡ exhausted (count (planned_by pl n m grid))
 
-module _ (n m : ℕ) (grid : List ℕ) (map : well_formed n m grid ≡ Accepted) where
+module _ (n m : ℕ) (grid : List ℕ) (map : well_formed n m grid ≡ Ok tt) where
   grid_long : length grid ≡ 1024
   grid_long = (formed n m grid map).length_is
 
@@ -60,7 +60,7 @@ module _ (n m : ℕ) (grid : List ℕ) (map : well_formed n m grid ≡ Accepted)
     again : directions_at (held_by Trials n m grid xs) (faults n m grid) ≡ xs
     again = paths_again n m grid xs grid_long one_each
 
-    passes : check_plan n m grid (held_by Trials n m grid xs) ≡ Accepted
+    passes : check_plan n m grid (held_by Trials n m grid xs) ≡ Ok tt
     passes =
         (accepts_plans n m grid (held_by Trials n m grid xs)).1
         (record {

@@ -3,10 +3,9 @@
 -- run is made with any of the planners, and those that are not spent call a map beyond repair in the same cases. The exact
 -- planner has no limit and is never spent.
 -- Assumes nothing.
-use Rattle.std.specs.Prelude.{ℕ, ◌≤◌, ◌<◌, ◌≡◌, true, false, ◌⊎◌, ◌↔◌, List, [], ◌∷◌}
+use Rattle.std.specs.Prelude.{ℕ, ◌≤◌, ◌<◌, ◌≡◌, true, false, ◌⊎◌, ◌↔◌, List, [], ◌∷◌, Ok}
 use Rattle.array.specs.Buffer.{all_long}
 use Rattle.array.specs.Map.{well_formed}
-use Rattle.array.specs.declared.Verdict.TheVariants.{Accepted}
 use Rattle.plans.specs.Faults.{faults, directions_at}
 use Rattle.plans.specs.Plan.{Plan, EveryChoiceBlocked, FirstPlan}
 use Rattle.plans.specs.declared.Fault.{Fault}
@@ -39,7 +38,7 @@ pub record Given : Type 0 where
 -- The map is well-formed, the limit is a u32, and every lent buffer has 1,024 elements. (The exact planner is given no
 -- limit, and what is said of it does not depend on this one.)
 pub record Good (g : Given) : Type 0 where
-  pub map : well_formed g.n g.m g.grid ≡ Accepted
+  pub map : well_formed g.n g.m g.grid ≡ Ok tt
   pub u32 : g.limit < 4294967296
   pub lent : all_long (g.directions ∷ g.places ∷ g.across ∷ g.down ∷ []) ≡ true
 

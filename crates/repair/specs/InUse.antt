@@ -1,24 +1,25 @@
 -- A plan in use: placement, routing and follower on a map and a direction buffer that the plan check accepts (document 00, demand 3;
 -- document 01, end of "Placement and routing"). Document 02, T-04: a dead processor joins none of its ports.
 -- Assumes nothing.
-use Rattle.std.specs.Prelude.{ℕ, ◌≤◌, ◌≡◌, true, get_or}
+use Rattle.std.specs.Prelude.{ℕ, ◌≤◌, ◌≡◌, true, get_or, Ok}
 use mathlib.Core.List.{List, [], ◌∷◌, Memᴰ}
 use Rattle.array.specs.Place.{position, processor}
 use Rattle.array.specs.Buffer.{all_long}
 use Rattle.array.specs.Map.{healthy, dead}
-use Rattle.array.specs.declared.Verdict.{Verdict}
-use Rattle.array.specs.declared.Verdict.TheVariants.{Accepted}
+use Rattle.array.specs.Tests.{Verdict}
 use Rattle.plans.specs.Check.{check_plan}
 use Rattle.track.specs.Placement.{placement}
 use Rattle.track.specs.Letters.{across_letters, down_letters}
-use Rattle.track.specs.Ports.{Wafer, wafer, Compass, Processor, Port}
+use Rattle.track.specs.Ports.{Wafer, wafer}
+use Rattle.track.specs.declared.ports.Compass.{Compass}
+use Rattle.track.specs.declared.ports.Node.TheVariants.{Processor}
+use Rattle.track.specs.declared.ports.Port.{Port}
 use Rattle.track.specs.Link.{Trail, Link, Enters, switches}
 use Rattle.track.specs.Pieces.{Piece, pieces, Same}
 use Rattle.track.specs.Follower.{position_of, out_of, landing}
 use Rattle.track.specs.Theorems.{Cell, Neighbour}
 use Rattle.track.specs.Avoids.{Visits}
-use Rattle.track.specs.declared.Followed.{Followed}
-use Rattle.track.specs.declared.Followed.TheVariants.{Entered}
+use Rattle.track.specs.Follower.{Followed}
 use Rattle.repair.specs.Operations.{place_cells, places_after, route_switches, across_after, down_after}
 use Rattle.repair.specs.Operations.{follow_link}
 
@@ -67,7 +68,7 @@ pub record Reached (u : Use) (i j side k l : ℕ) (port : Compass) : Type 0 wher
   pub end : Port
   pub ends : Enters link end
   -- the follower accepts, and its answer is that of the link itself: the end's position and port number, and the link's switches
-  pub own : following u i j side ≡ Entered (landing link end)
+  pub own : following u i j side ≡ Ok (landing link end)
   -- the position entered is the one that the placement holds for the neighbour
   pub at_neighbour : position_of end.node ≡ held u k l
   pub by_port : end.side ≡ port
@@ -92,9 +93,9 @@ pieces_of u x = pieces (out u x.i x.j x.side) x.link
 -- what is said of a plan in use
 pub record InUse (u : Use) : Type 0 where
   -- placement and routing accept, and their buffers hold what `track` defines for the directions
-  pub placing_accepted : placing u ≡ Accepted
+  pub placing_accepted : placing u ≡ Ok tt
   pub placement_defined : places_held u ≡ placement u.n u.m u.grid u.directions
-  pub routing_accepted : routing u ≡ Accepted
+  pub routing_accepted : routing u ≡ Ok tt
   pub across_defined : (routed u).across ≡ across_letters u.n u.m u.grid u.directions
   pub down_defined : (routed u).down ≡ down_letters u.n u.m u.grid u.directions
   -- every cell has a healthy processor to itself
@@ -112,5 +113,5 @@ pub record InUse (u : Use) : Type 0 where
 -- for every plan that the plan check accepts and every content of the lent buffers, which have 1,024 elements each
 abbrev pub PlansServe : Type 0
 PlansServe =
-    (u : Use) → check_plan u.n u.m u.grid u.directions ≡ Accepted
+    (u : Use) → check_plan u.n u.m u.grid u.directions ≡ Ok tt
     → all_long (u.places ∷ u.across ∷ u.down ∷ []) ≡ true → InUse u

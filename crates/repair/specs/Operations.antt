@@ -1,10 +1,10 @@
 -- The operations of a run, with three planners: what each answers, and every buffer afterwards, for refused calls too.
 -- The arguments `directions`, `places`, `across` and `down` are the buffers as they are lent. Assumes nothing.
-use Rattle.std.specs.Prelude.{ℕ, Bool, true, false, List, [], ◌∷◌}
+use Rattle.std.specs.Prelude.{ℕ, Bool, true, false, List, [], ◌∷◌, Ok, Err}
 use Rattle.array.specs.Tests.{or_else, Told, accepts, refuses_as}
 use Rattle.array.specs.Buffer.{all_long, written}
 use Rattle.array.specs.Map.{map_test}
-use Rattle.array.specs.declared.Verdict.{Verdict}
+use Rattle.array.specs.Tests.{Verdict}
 use Rattle.plans.specs.Faults.{faults}
 use Rattle.plans.specs.Check.{plan_tests, plan_test}
 use Rattle.plans.specs.declared.Fault.{Fault}
@@ -20,13 +20,11 @@ use Rattle.track.specs.Placement.{placement}
 use Rattle.track.specs.Letters.{across_letters, down_letters}
 use Rattle.track.specs.Ports.{Wafer}
 use Rattle.track.specs.Follower.{cell_test, switches_test, followed}
-use Rattle.track.specs.declared.Followed.{Followed}
+use Rattle.track.specs.Follower.{Followed}
 use Rattle.repair.specs.declared.Planner.{Planner}
 use Rattle.repair.specs.declared.Planner.TheVariants.{Trials, Quick, Exact}
 use Rattle.repair.specs.declared.Answer.{Answer}
 use Rattle.repair.specs.declared.Answer.TheVariants.{Planned, Decided, Refused}
-use Rattle.array.specs.declared.Verdict.TheVariants as verdict
-use Rattle.track.specs.declared.Followed.TheVariants as follow
 
 -- THE PLANNERS. What a planner keeps before its trials: nothing, or the faults that it has settled (T-05).
 abbrev pub kept_by : Planner → ℕ → ℕ → List ℕ → List Fault
@@ -69,8 +67,8 @@ abbrev pub planner_test : ℕ → ℕ → List ℕ → List ℕ → Verdict
 planner_test n m grid directions = map_test n m (grid ∷ directions ∷ []) grid
 
 abbrev pub answer_after : Verdict → Answer → Answer
-answer_after verdict.Accepted a = a
-answer_after (verdict.Refused r) a = Refused r
+answer_after (Ok tt) a = a
+answer_after (Err r) a = Refused r
 
 unfoldable pub plan_by : Planner → ℕ → ℕ → List ℕ → List ℕ → ℕ → Answer
 plan_by pl n m grid directions limit =
@@ -167,8 +165,8 @@ abbrev pub follow_test : Wafer → ℕ → ℕ → Verdict
 follow_test w cell side = link_tests w (all_long (w.grid ∷ w.directions ∷ w.across ∷ w.down ∷ [])) cell side
 
 abbrev pub followed_after : Verdict → Followed → Followed
-followed_after verdict.Accepted f = f
-followed_after (verdict.Refused r) f = follow.Refused r
+followed_after (Ok tt) f = f
+followed_after (Err r) f = Err r
 
 unfoldable pub follow_link : Wafer → ℕ → ℕ → Followed
 follow_link w cell side = followed_after (follow_test w cell side) (followed w cell side)

@@ -1,11 +1,11 @@
 // The operations of a run: the planners, placement, routing and follower.
 #![tactic(auto)]
 
-ghost use Rattle.std.specs.Prelude.{◌≡◌, true, ◌≤◌, ◌<◌, length};
+ghost use Rattle.std.specs.Prelude.{◌≡◌, true, ◌≤◌, ◌<◌, length, IfOk};
 ghost use Rattle.array.specs.Place.{inner};
-ghost use Rattle.plans.specs.Inner.{Directed};
 ghost use Rattle.track.specs.Follower.{followed};
-ghost use Rattle.follower.specs.Inner.{Ready};
+ghost use Rattle.follower.specs.Inner.{wafer_of};
+ghost use Rattle.array.specs.Tests.{verdict_of};
 ghost use Rattle.track.specs.Ports.{wafer};
 ghost use Rattle.repair.specs.Operations.{kept_by, left_by, planned_by, answer_by, buffer_by, plan_by, directions_by};
 ghost use Rattle.repair.specs.Operations.{plan_repair, directions_after, plan_quickly, directions_quickly};
@@ -16,8 +16,9 @@ ghost use Rattle.array.specs.Tests as tests;
 ghost use Rattle.track.specs.Follower as links;
 ghost use Rattle.repair.specs.Operations as operations;
 
-use array::{Refusal, Verdict};
+use array::{Map, Reason, Refusal, Verdict};
 use exact::Decision;
+use follower::Wafer;
 use track::Followed;
 use trials::Outcome;
 
@@ -39,23 +40,18 @@ pub enum Answer {
 }
 
 // Inner part: a planner on a map that passes the tests 1 to 3. The exact planner reads no limit.
-pub fn find_by(
-    planner: Planner,
-    n: usize,
-    m: usize,
-    grid: &[u8],
-    directions: &mut [u8],
-    limit: u32,
-) -> Answer
-    requires { (n ≤ 30) × (m ≤ 30) × (length grid.now ≡ 1024) × (length directions.old ≡ 1024) }
-    ensures { (result ≡ answer_by planner limit (planned_by planner n m grid.now))
-        × (directions.new ≡ buffer_by planner limit (kept_by planner n m grid.now)
-        (left_by planner n m grid.now) (planned_by planner n m grid.now)) }
+pub fn find_by(planner: Planner, map: &Map, directions: &mut [u8; 1024], limit: u32) -> Answer
+    ensures answer { result
+        ≡ answer_by planner limit (planned_by planner map.now.shape.rows map.now.shape.columns map.now.grid.now) }
+    ensures buffer { directions.new ≡ buffer_by planner limit
+        (kept_by planner map.now.shape.rows map.now.shape.columns map.now.grid.now)
+        (left_by planner map.now.shape.rows map.now.shape.columns map.now.grid.now)
+        (planned_by planner map.now.shape.rows map.now.shape.columns map.now.grid.now) }
 {
     match planner {
-        Planner::Trials => Answer::Planned(trials::find_plan(n, m, grid, directions, limit)),
-        Planner::Quick => Answer::Planned(peeling::find_plan(n, m, grid, directions, limit)),
-        Planner::Exact => Answer::Decided(exact::find_exactly(n, m, grid, directions)),
+        Planner::Trials => Answer::Planned(trials::find_plan(map, directions, limit)),
+        Planner::Quick => Answer::Planned(peeling::find_plan(map, directions, limit)),
+        Planner::Exact => Answer::Decided(exact::find_exactly(map, directions)),
     }
 }
 
@@ -74,11 +70,10 @@ pub fn plan_by(
         ≡ directions_by planner n m grid.now directions.old limit }
 {
     let right = (grid.len() == 1024) & (directions.len() == 1024);
-    let v = array::check_map(n, m, right, grid);
-    if let Verdict::Refused(r) = v {
-        return Answer::Refused(r);
+    match array::check_map(n, m, right, grid) {
+        Ok(map) => find_by(planner, &map, directions.as_mut_array().unwrap(), limit),
+        Err(refusal) => Answer::Refused(refusal),
     }
-    find_by(planner, n, m, grid, directions, limit)
 }
 
 // The planner: the outcome of the trials under a limit. Repaired writes the plan; beyond repair and spent write 0 in the whole buffer.
@@ -120,12 +115,9 @@ pub fn place_cells(
     ensures buffer { places.new ≡ places_after n m grid.now directions.now places.old }
 {
     let right = (grid.len() == 1024) & ((directions.len() == 1024) & (places.len() == 1024));
-    let v = plans::check_tests(n, m, right, grid, directions);
-    if let Verdict::Refused(_) = v {
-        return v;
-    }
-    routing::place(n, m, grid, directions, places);
-    Verdict::Accepted
+    let plan = plans::check_tests(n, m, right, grid, directions)?;
+    routing::place(&plan, places.as_mut_array().unwrap());
+    Ok(())
 }
 
 // The switches of a plan: a letter a to d at each switch, else 0, in the across and in the down buffer.
@@ -142,89 +134,51 @@ pub fn route_switches(
 {
     let right = (grid.len() == 1024)
         & ((directions.len() == 1024) & ((across.len() == 1024) & (down.len() == 1024)));
-    let v = plans::check_tests(n, m, right, grid, directions);
-    if let Verdict::Refused(_) = v {
-        return v;
-    }
-    routing::route(n, m, grid, directions, across, down);
-    Verdict::Accepted
+    let plan = plans::check_tests(n, m, right, grid, directions)?;
+    routing::route(
+        &plan,
+        across.as_mut_array().unwrap(),
+        down.as_mut_array().unwrap(),
+    );
+    Ok(())
 }
 
-// Inner part: the follower's tests, 1 to 7, 15 and 16, where `right` says that all lent buffers have 1,024 elements.
-fn check_link(
+// Inner part: the follower's tests, 1 to 7, 15 and 16, where `right` says that all lent buffers have 1,024 elements: the wafer that passes
+// them.
+#[tactic(auto, unfolding(crate::specs::Operations::link_tests))]
+fn check_link<'a>(
     n: usize,
     m: usize,
     right: bool,
-    grid: &[u8],
-    directions: &[u8],
-    across: &[u8],
-    down: &[u8],
+    grid: &'a [u8],
+    directions: &'a [u8],
+    across: &'a [u8],
+    down: &'a [u8],
     cell: usize,
     side: usize,
-) -> Verdict
+) -> Result<Wafer<'a>, Refusal>
     requires { right ≡ true → (length grid.now ≡ 1024) × (length directions.now ≡ 1024) × (length across.now ≡ 1024) × (length down.now ≡ 1024) }
-    ensures { result ≡ link_tests (wafer n m grid.now directions.now across.now down.now) right cell side }
+    ensures tests { verdict_of result ≡ link_tests (wafer n m grid.now directions.now across.now down.now) right cell side }
+    ensures wafer { IfOk result (λ w. (wafer_of w ≡ wafer n m grid.now directions.now across.now down.now) × (inner n m cell ≡ true) × (side < 2)) }
 {
-    let plan = plans::check_tests(n, m, right, grid, directions);
-    if let Verdict::Refused(_) = plan {
-        return plan;
+    let plan = plans::check_tests(n, m, right, grid, directions)?;
+    if !(plan.map.shape.is_inner(cell) & (side < 2)) {
+        return Err(Refusal::at(Reason::NoSuchLink, 0));
     }
-    if !(array::is_inner(n, m, cell) & (side < 2)) {
-        return Verdict::Refused(Refusal {
-            number: 15,
-            place: 0,
-            second: 0,
-        });
-    }
-    follower::check_switches(n, m, across, down)
-}
-
-// Inner part: a cell's link on a side, over room for the placement.
-fn follow_within(
-    n: usize,
-    m: usize,
-    grid: &[u8],
-    directions: &[u8],
-    across: &[u8],
-    down: &[u8],
-    cell: usize,
-    side: usize,
-    places: &mut [u16],
-) -> Followed
-    requires { Directed n m grid.now directions.now × Ready n m grid.now directions.now across.now down.now × (inner n m cell ≡ true) × (side < 2) × (length places.old ≡ 1024) }
-    ensures { result ≡ followed (wafer n m grid.now directions.now across.now down.now) cell side }
-{
-    routing::place(n, m, grid, directions, places);
-    let from = plans::wide(places[cell]);
-    follower::follow(n, m, grid, directions, across, down, from, side as u8)
+    let wafer = Wafer::new(plan, across, down);
+    follower::check_switches(&wafer)?;
+    Ok(wafer)
 }
 
 // Inner part: a cell's link on a side, once the tests have passed.
-fn follow_tested(
-    n: usize,
-    m: usize,
-    grid: &[u8],
-    directions: &[u8],
-    across: &[u8],
-    down: &[u8],
-    cell: usize,
-    side: usize,
-) -> Followed
-    requires { Directed n m grid.now directions.now × Ready n m grid.now directions.now across.now down.now × (inner n m cell ≡ true) × (side < 2) }
-    ensures { result ≡ followed (wafer n m grid.now directions.now across.now down.now) cell side }
+fn follow_tested(wafer: &Wafer, cell: usize, side: usize) -> Followed
+    requires { (inner wafer.now.plan.map.shape.rows wafer.now.plan.map.shape.columns cell ≡ true) × (side < 2) }
+    ensures { result ≡ followed (wafer_of wafer.now) cell side }
 {
     let mut places = [0u16; 1024];
-    follow_within(
-        n,
-        m,
-        grid,
-        directions,
-        across,
-        down,
-        cell,
-        side,
-        &mut places,
-    )
+    routing::place(&wafer.plan, &mut places);
+    let from = usize::from(places[cell]);
+    follower::follow(wafer, from, side as u8)
 }
 
 // The follower: where the link of cell 32i + j on a side (0 east, 1 south) enters a processor, by which port, over how many switches.
@@ -242,9 +196,6 @@ pub fn follow_link(
 {
     let right = (grid.len() == 1024)
         & ((directions.len() == 1024) & ((across.len() == 1024) & (down.len() == 1024)));
-    let v = check_link(n, m, right, grid, directions, across, down, cell, side);
-    if let Verdict::Refused(r) = v {
-        return Followed::Refused(r);
-    }
-    follow_tested(n, m, grid, directions, across, down, cell, side)
+    let wafer = check_link(n, m, right, grid, directions, across, down, cell, side)?;
+    follow_tested(&wafer, cell, side)
 }

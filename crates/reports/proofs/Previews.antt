@@ -1,5 +1,6 @@
 -- A preview and its report cannot part, by the answer of the report.
 -- Assumes nothing.
+use Rattle.std.specs.Prelude.{Ok, Err}
 use Prim.Native.Nat.{ℕ}
 use mathlib.Core.Path.{◌≡◌, refl, sym, ap, subst, ◌∙◌}
 use mathlib.Core.Bool.{Bool, true, false, cond}
@@ -7,8 +8,7 @@ use lib.Seq.{get_or-set_same}
 use lib.ListN.{get_or}
 use native.Mathlib.Omega.{arith}
 use Rattle.array.specs.Place.{inner}
-use Rattle.array.specs.declared.Verdict.{Verdict}
-use Rattle.array.specs.declared.Verdict.TheVariants.{Accepted, Refused}
+use Rattle.array.specs.Tests.{Verdict}
 use Rattle.sessions.specs.Session.{session_if, taken, report_test, path_of, changed, session_reported}
 use Rattle.sessions.specs.declared.Session.{Session}
 use Rattle.sessions.proofs.Judging.{taken_spare}
@@ -19,7 +19,7 @@ use Rattle.reports.specs.Previews.{as_foretold, Previews}
 use Rattle.reports.proofs.Reports.{report_allowed, fails}
 use Rattle.reports.proofs.Sound.{sessions}
 
-module _ (s : Session) (failing : Bool) (p : ℕ) (h : report_test s failing p ≡ Accepted) where
+module _ (s : Session) (failing : Bool) (p : ℕ) (h : report_test s failing p ≡ Ok tt) where
   -- the session after an accepted report, and what its preview gives
   abbrev after : Session
   after = changed s failing p (path_of s failing p)
@@ -55,19 +55,19 @@ module _ (s : Session) (failing : Bool) (p : ℕ) (h : report_test s failing p �
   left_as_foretold = leaves ∙ ap by_direction (sym direction_left) ∙ ap (as_foretold s failing p) (sym gives)
 
 -- a failing processor has the direction that it takes
-failing_has : (s : Session) (p : ℕ) → report_test s true p ≡ Accepted → (foretold s true p).direction ≡ taken s p
+failing_has : (s : Session) (p : ℕ) → report_test s true p ≡ Ok tt → (foretold s true p).direction ≡ taken s p
 unfolding path_of
 failing_has s p h = direction_is s true p h
 
 -- beside a refusal the direction is 0
-none_refused : (v : Verdict) (f : Foretold) → (v ≡ Accepted → (foretold_if v f).direction ≡ 0)
+none_refused : (v : Verdict) (f : Foretold) → (v ≡ Ok tt → (foretold_if v f).direction ≡ 0)
     → (foretold_if v f).direction ≡ 0
-none_refused Accepted f h = h refl
-none_refused (Refused r) f h = refl
+none_refused (Ok tt) f h = h refl
+none_refused (Err r) f h = refl
 
 -- so it is 0 where that of an accepted report is
 none_if : (s : Session) (failing : Bool) (p : ℕ)
-    → (report_test s failing p ≡ Accepted → (foretold s failing p).direction ≡ 0) → (foretold s failing p).direction ≡ 0
+    → (report_test s failing p ≡ Ok tt → (foretold s failing p).direction ≡ 0) → (foretold s failing p).direction ≡ 0
 unfolding foretold
 none_if s failing p h = none_refused (report_test s failing p) (shown_at (session_reported s failing p) p) h
 

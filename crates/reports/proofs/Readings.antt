@@ -1,5 +1,6 @@
 -- What the definitions of sessions come to.
 -- Assumes nothing.
+use Rattle.std.specs.Prelude.{Ok}
 use Prim.Native.Nat.{ℕ, ◌+◌, ◌*◌, ◌≤◌, ◌<◌}
 use mathlib.Core.Path.{◌≡◌, refl, sym, ap, subst, ◌∙◌}
 use mathlib.Core.Bool.{Bool, true, false, cond}
@@ -11,8 +12,7 @@ use lib.Seq.{ext_get_or, get_or-set_same, get_or-set_other}
 use Rattle.array.specs.Place.{inner}
 use Rattle.array.specs.Buffer.{positions_in}
 use Rattle.array.specs.Map.{inner_faulty, inner_fault}
-use Rattle.array.specs.declared.Verdict.{Verdict}
-use Rattle.array.specs.declared.Verdict.TheVariants.{Accepted}
+use Rattle.array.specs.Tests.{Verdict}
 use Rattle.array.proofs.Bools.{by_bool, by_eq, by_lt}
 use Rattle.array.proofs.Fills.{tabulate_length}
 use Rattle.array.proofs.Formed.{Formed, formed}
@@ -26,7 +26,7 @@ use Rattle.sessions.specs.Inner.{Wide}
 use Rattle.sessions.specs.declared.Session.{Session}
 use Rattle.sessions.proofs.Few.{count_fewer, few_count}
 use Rattle.sessions.proofs.Judging.{taken_spare}
-use Rattle.sessions.proofs.Reports.{none_altered}
+use Rattle.sessions.proofs.Judging.{none_altered}
 use Rattle.reports.specs.Theorems.{SoundSession, after_all}
 use Rattle.reports.specs.Readings.{fault_counts, with_mark, counters_of, Readings}
 use Rattle.reports.proofs.Held.{Held, accepted_held, held_accepted}
@@ -82,7 +82,7 @@ same_set b p v l e =
     by_eq q p (λ z. subst (λ (k : ℕ). get_or (set b p v) k 0 ≡ get_or b k 0) (sym z) (get_or-set_same b p v 0 l ∙ sym e))
     (λ ne. get_or-set_other b p q v 0 ne))
 
-module _ (s : Session) (failing : Bool) (p : ℕ) (w : Wide s) (h : report_test s failing p ≡ Accepted)
+module _ (s : Session) (failing : Bool) (p : ℕ) (w : Wide s) (h : report_test s failing p ≡ Ok tt)
     (i : inner s.rows s.columns p ≡ false) where
   held : Held s.rows s.columns s.grid s.directions
   held = (report_allowed s failing p h).placed.held

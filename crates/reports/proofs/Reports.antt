@@ -1,5 +1,6 @@
 -- What an accepted report says.
 -- Assumes nothing.
+use Rattle.std.specs.Prelude.{Ok}
 use Prim.Native.Nat.{ℕ, ◌≤◌, ◌<◌}
 use mathlib.Core.Path.{◌≡◌, refl, sym, ◌∙◌}
 use mathlib.Core.Bool.{Bool, true, false, cond, not, ◌&&◌, true≢false}
@@ -11,7 +12,6 @@ use lib.ListN.{length, get_or}
 use Rattle.array.specs.Place.{inner, processor}
 use Rattle.array.specs.Map.{faulty}
 use Rattle.array.specs.Tests.{refuse_if}
-use Rattle.array.specs.declared.Verdict.TheVariants.{Accepted}
 use Rattle.array.proofs.Bools.{and_true}
 use Rattle.array.proofs.Verdicts.{both_accepted, accepted_false, accepted_not}
 use Rattle.array.proofs.Scans.{buffer_scan, scan_each}
@@ -80,9 +80,9 @@ pub record Placed (s : Session) (p : ℕ) : Type 0 where
 -- a report that is accepted
 pub record Allowed (s : Session) (failing : Bool) (p : ℕ) : Type 0 where
   pub placed : Placed s p
-  pub tested : cond failing (fail_test s p) (recover_test s p) ≡ Accepted
+  pub tested : cond failing (fail_test s p) (recover_test s p) ≡ Ok tt
 
-pub report_allowed : (s : Session) (failing : Bool) (p : ℕ) → report_test s failing p ≡ Accepted → Allowed s failing p
+pub report_allowed : (s : Session) (failing : Bool) (p : ℕ) → report_test s failing p ≡ Ok tt → Allowed s failing p
 unfolding report_test
 report_allowed s failing p h =
     let a = both_accepted (session_test s) _ h in
@@ -107,7 +107,7 @@ pub record Fails (s : Session) (p : ℕ) : Type 0 where
       → member p (path s.rows s.columns q (get_or s.directions q 0)) ≡ false
   pub found : inner s.rows s.columns p ≡ true → taken s p ≡ 0 → ⊥
 
-pub fails : (s : Session) (p : ℕ) → fail_test s p ≡ Accepted → Fails s p
+pub fails : (s : Session) (p : ℕ) → fail_test s p ≡ Ok tt → Fails s p
 unfolding fail_test
 fails s p h =
     let a = both_accepted (refuse_if (faulty s.grid p) 22 p 0) _ h in

@@ -1,5 +1,6 @@
 -- A sound session stays sound: the theorem of T-07.
 -- Assumes nothing.
+use Rattle.std.specs.Prelude.{Ok, Err}
 use Prim.Native.Nat.{ℕ, ◌+◌, ◌<◌}
 use mathlib.Core.Path.{◌≡◌, refl, sym, ap, subst, ◌∙◌}
 use mathlib.Core.Bool.{Bool, true, false, true≢false, false≢true}
@@ -10,8 +11,7 @@ use lib.ListN.{length, get_or, set}
 use Rattle.array.specs.Place.{inner}
 use Rattle.array.specs.Buffer.{positions_in}
 use Rattle.array.specs.Map.{faulty_mark, inner_fault}
-use Rattle.array.specs.declared.Verdict.{Verdict}
-use Rattle.array.specs.declared.Verdict.TheVariants.{Accepted, Refused}
+use Rattle.array.specs.Tests.{Verdict}
 use Rattle.array.proofs.Bools.{and_true, and_none, and_one, by_bool}
 use Rattle.array.proofs.Formed.{formed}
 use Rattle.array.proofs.Positions.{position_index}
@@ -24,7 +24,7 @@ use Rattle.sessions.specs.declared.Session.{Session}
 use Rattle.counters.proofs.Tallies.{no_path_counts}
 use Rattle.sessions.proofs.Few.{few_count}
 use Rattle.sessions.proofs.Judging.{taken_inner, taken_spare}
-use Rattle.sessions.proofs.Reports.{start_accepted}
+use Rattle.sessions.proofs.Judging.{start_accepted}
 use Rattle.reports.specs.Theorems.{SoundSession, Report, after_all, Sessions}
 use Rattle.reports.specs.Readings.{counters_of}
 use Rattle.reports.proofs.Held.{Held, held_accepted, fault_within}
@@ -168,7 +168,7 @@ module _ (s : Session) (p : ℕ) (h : SoundSession s) (o : Placed s p) where
         west_right = ap (counters_after n m false p e 4) h.west_right ∙ down 4;
       }
 
-changed_sound : (s : Session) (failing : Bool) (p : ℕ) → SoundSession s → report_test s failing p ≡ Accepted
+changed_sound : (s : Session) (failing : Bool) (p : ℕ) → SoundSession s → report_test s failing p ≡ Ok tt
     → SoundSession (changed s failing p (path_of s failing p))
 unfolding path_of
 changed_sound s true p h a = let k = report_allowed s true p a in fail_sound s p h k.placed (fails s p k.tested)
@@ -180,15 +180,15 @@ report_sound s failing p h = by (report_test s failing p) refl
   where
     by : (v : Verdict) → report_test s failing p ≡ v
         → SoundSession (session_if v (changed s failing p (path_of s failing p)) s)
-    by Accepted e = changed_sound s failing p h e
-    by (Refused r) e = h
+    by (Ok tt) e = changed_sound s failing p h e
+    by (Err r) e = h
 
-begun_sound : (n m : ℕ) (grid directions : List ℕ) → check_plan n m grid directions ≡ Accepted
+begun_sound : (n m : ℕ) (grid directions : List ℕ) → check_plan n m grid directions ≡ Ok tt
     → SoundSession (begun n m grid directions)
 begun_sound n m grid directions h =
     record { passes = h; south_right = refl; north_right = refl; east_right = refl; west_right = refl }
 
-start_sound : (n m : ℕ) (grid directions : List ℕ) → check_plan n m grid directions ≡ Accepted
+start_sound : (n m : ℕ) (grid directions : List ℕ) → check_plan n m grid directions ≡ Ok tt
     → SoundSession (session_started n m grid directions)
 start_sound n m grid directions h = subst SoundSession (start_accepted n m grid directions h) (begun_sound n m grid directions h)
 

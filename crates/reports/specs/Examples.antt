@@ -1,12 +1,11 @@
 -- Document 02, T-07, computed on 3 x 3 with three kept paths: from (1, 1) west, from the dead (1, 3) south and from (2, 2)
 -- south. The spare (0, 2) is faulty. A position is 32 times the row, and the column.
 -- Assumes nothing.
-use Rattle.std.specs.Prelude.{ℕ, ◌≡◌, true, false, cond, ◌||◌, List, [], ◌∷◌, eqb, get_or}
+use Rattle.std.specs.Prelude.{ℕ, ◌≡◌, true, false, cond, ◌||◌, List, [], ◌∷◌, eqb, get_or, Ok}
 use Rattle.array.specs.Buffer.{buffer, zeros}
 use Rattle.array.specs.Place.{processor}
 use Rattle.array.specs.Tests.{refuse}
-use Rattle.array.specs.declared.Verdict.{Verdict}
-use Rattle.array.specs.declared.Verdict.TheVariants.{Accepted}
+use Rattle.array.specs.Tests.{Verdict}
 use Rattle.plans.specs.Check.{check_plan}
 use Rattle.counters.specs.Count.{count_afresh}
 use Rattle.sessions.specs.Session.{session, begun, no_session, report_test, path_of}
@@ -70,7 +69,7 @@ made_up c =
     session 3 3 grid directions (buffer (made_up_at c)) (buffer (made_up_at c)) (buffer (made_up_at c)) (buffer (made_up_at c))
 
 pub record ReportExamples : Type 0 where
-  pub starts : check_plan 3 3 grid directions ≡ Accepted
+  pub starts : check_plan 3 3 grid directions ≡ Ok tt
   -- at (1, 2): south meets (2, 2), east (1, 3), west (1, 1)
   pub beside_three : counted 34 ≡ 1 ∷ 0 ∷ 1 ∷ 1 ∷ []
   -- at (3, 1): north meets (1, 1) and nearly misses (2, 2), east meets the two paths south
@@ -93,11 +92,11 @@ pub record ReportExamples : Type 0 where
   -- 24: north of (1, 2) is the faulty spare, and the other three meet kept paths
   pub no_direction : fails_at 34 ≡ refuse 24 34 0
   -- (3, 1) takes south, a spare nothing; (2, 2) gives back its path south
-  pub taken : fails_at 97 ≡ Accepted
+  pub taken : fails_at 97 ≡ Ok tt
   pub taken_south : path_of started true 97 ≡ 1
-  pub spare_fails : fails_at 1 ≡ Accepted
+  pub spare_fails : fails_at 1 ≡ Ok tt
   pub spare_takes_none : path_of started true 1 ≡ 0
-  pub recovered : recovers_at 66 ≡ Accepted
+  pub recovered : recovers_at 66 ≡ Ok tt
   pub given_back : path_of started false 66 ≡ 1
   -- (2, 1) before and after (3, 1) fails and takes south, and after it recovers; (3, 1) itself
   pub before : held_at started 65 ≡ 0 ∷ 0 ∷ 0 ∷ 1 ∷ 2 ∷ 0 ∷ []

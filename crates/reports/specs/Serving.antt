@@ -1,9 +1,8 @@
 -- Document 00, demand 3, in a session (document 02, T-07): what a run promises of placement, routing and follower holds of the
 -- session after every list of reports.
 -- Assumes nothing.
-use Rattle.std.specs.Prelude.{ℕ, ◌≡◌, true, List, [], ◌∷◌}
+use Rattle.std.specs.Prelude.{ℕ, ◌≡◌, true, List, [], ◌∷◌, Ok}
 use Rattle.array.specs.Buffer.{all_long}
-use Rattle.array.specs.declared.Verdict.TheVariants.{Accepted}
 use Rattle.plans.specs.Check.{check_plan}
 use Rattle.repair.specs.InUse.{Use, InUse}
 use Rattle.sessions.specs.Session.{session_started}
@@ -27,5 +26,5 @@ used_in s places across down =
 abbrev pub SessionsServe : Type 0
 SessionsServe =
     (n m : ℕ) (grid directions : List ℕ) (rs : List Report) (places across down : List ℕ)
-    → check_plan n m grid directions ≡ Accepted → all_long (places ∷ across ∷ down ∷ []) ≡ true
+    → check_plan n m grid directions ≡ Ok tt → all_long (places ∷ across ∷ down ∷ []) ≡ true
     → InUse (used_in (after_all (session_started n m grid directions) rs) places across down)

@@ -2,21 +2,23 @@
 -- Assumes nothing.
 use mathlib.Core.Path.{◌≡◌, refl, sym, ap, subst, ◌∙◌}
 use mathlib.Core.Bool.{Bool, true, false, cond, ◌||◌}
-use mathlib.Core.List.{List, [], ◌∷◌}
+use mathlib.Core.List.{List, [], ◌∷◌, reverse}
 use Prim.Native.Nat.{ℕ, suc, ◌+◌, ◌-◌, ◌<◌, ◌≤◌}
 use native.Mathlib.Numerals.{add-one}
 use native.Mathlib.Omega.{arith}
 use borrow.Author.Tests.{eq-eqb, ne_eqb}
 use lib.ListN.{length, get_or, set, drop, length-set, drop_of_length-le}
 use lib.Seq.{ext_get_or, get_or-set_same, get_or-set_other, drop-cons}
-use Rattle.array.specs.Buffer.{span, buffer, nothing_at, zeros}
+use Rattle.array.specs.Buffer.{span, buffer, zeros}
 use Rattle.array.proofs.Bools.{by_eq}
-use Rattle.array.proofs.Fills.{tabulate_length, tabulate_at}
+use Rattle.array.proofs.Fills.{tabulate_length, tabulate_at, same_default}
+use Rattle.std.proofs.lemmas.List.{get_or-reverse, length-reverse}
 use Rattle.paths.specs.Path.{ahead, path_length, path, member, Start}
-use Rattle.plans.specs.Faults.{fault, paired}
-use Rattle.plans.specs.Inner.{Starts}
+use Rattle.plans.specs.Faults.{fault, faults, directions_at, paired}
+use Rattle.plans.specs.Inner.{Starts, Directed}
+use Rattle.plans.proofs.Facts.{fault_below, fault_starts}
 use Rattle.plans.specs.declared.Fault.{Fault}
-use Rattle.plans.proofs.Pairing.{paired_length, paired_at}
+use Rattle.plans.proofs.Pairing.{paired_length, paired_at, direction_at}
 use Rattle.track.specs.Placement.{through}
 use Rattle.routing.specs.Inner.{painted}
 
@@ -109,9 +111,6 @@ pub start_here : {n m : ℕ} {starts ds : List ℕ} → Starts n m starts ds →
     → Start n m p (get_or ds k 0)
 start_here {n} {m} {starts} {ds} s k p h e = subst (λ (q : ℕ). Start n m q (get_or ds k 0)) (sym e) (s.each k h)
 
-pub zeros_long : (b : List ℕ) → b ≡ zeros → length b ≡ 1024
-zeros_long b e = ap length e ∙ tabulate_length nothing_at 1024
-
 pub trace_start : (n m : ℕ) (starts ds b : List ℕ) → length ds ≡ length starts → b ≡ zeros → Traced n m starts ds 0 b
 unfolding through
 trace_start n m starts ds b h e =
@@ -123,9 +122,6 @@ trace_start n m starts ds b h e =
     }
 
 module _ {n m : ℕ} {starts ds : List ℕ} {i : ℕ} {b : List ℕ} (s : Traced n m starts ds i b) where
-  pub trace_long : length b ≡ 1024
-  trace_long = ap length s.is ∙ tabulate_length (through n m (drop (length starts - i) (paired starts ds))) 1024
-
   pub trace_step : (k p : ℕ) (new : List ℕ) → suc k ≡ length starts - i → p ≡ get_or starts k 0
       → new ≡ painted (path n m p (get_or ds k 0)) (get_or ds k 0) b → Traced n m starts ds (i + 1) new
   trace_step k p new h e t =
@@ -152,3 +148,34 @@ module _ {n m : ℕ} {starts ds : List ℕ} {i : ℕ} {b : List ℕ} (s : Traced
   trace_end h =
       let e : length starts - i ≡ 0 = omega arith in
       s.is ∙ ap (λ (z : ℕ). traced n m (drop z (paired starts ds))) e
+
+-- what a turn from the last fault to the first reads: the start p, after i others
+pub record Turn (n m : ℕ) (directions starts : List ℕ) (i p : ℕ) : Type 0 where
+  pub k : ℕ
+  pub here : suc k ≡ length starts - i
+  pub at : p ≡ get_or starts k 0
+  pub below : p < 1024
+  pub same : get_or directions p 0 ≡ get_or (directions_at directions starts) k 0
+  pub start : Start n m p (get_or directions p 0)
+
+module _ (n m : ℕ) (grid directions starts : List ℕ) (h : Directed n m grid directions) (e : starts ≡ faults n m grid) where
+  pub listed_starts : Starts n m starts (directions_at directions starts)
+  listed_starts = subst (λ (x : List ℕ). Starts n m x (directions_at directions x)) (sym e) (fault_starts n m grid directions h)
+
+  pub turn_of : (i p : ℕ) → i < length (reverse starts) → p ≡ get_or (reverse starts) i p → Turn n m directions starts i p
+  turn_of i p l q =
+      let j : i < length starts = omega (arith, l, length-reverse starts) in
+      let k = length starts - 1 - i in
+      let b : k < length starts = omega arith in
+      let a : p ≡ get_or starts k 0 = q ∙ get_or-reverse starts i p j ∙ same_default starts k p 0 b in
+      let low = fault_below n m grid h.sound.grid_long k (omega (arith, b, ap length e)) in
+      let d : get_or directions p 0 ≡ get_or (directions_at directions starts) k 0 =
+      ap (λ (x : ℕ). get_or directions x 0) a ∙ sym (direction_at directions starts k b) in
+      record {
+        k = k;
+        here = omega arith;
+        at = a;
+        below = omega (arith, a, low, ap (λ (x : List ℕ). get_or x k 0) e);
+        same = d;
+        start = subst (λ (x : ℕ). Start n m p x) (sym d) (start_here listed_starts k p b a);
+      }

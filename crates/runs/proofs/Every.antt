@@ -1,5 +1,6 @@
 -- Where the tests of a run pass, demand 3 holds of it; and after `repaired` every link to a neighbour is found to reach it.
 -- Assumes nothing.
+use Rattle.std.specs.Prelude.{Ok}
 use mathlib.Core.Path.{◌≡◌, refl, sym, ap, ◌∙◌}
 use mathlib.Core.Bool.{Bool, true, false, ◌&&◌}
 use mathlib.Core.List.{[], ◌∷◌}
@@ -10,14 +11,14 @@ use lib.ListN.{get_or}
 use Rattle.array.specs.Place.{position, row, column, inner}
 use Rattle.array.specs.Buffer.{long, all_long}
 use Rattle.array.specs.Map.{map_tests}
-use Rattle.array.specs.declared.Verdict.{Verdict}
-use Rattle.array.specs.declared.Verdict.TheVariants.{Accepted}
+use Rattle.array.specs.Tests.{Verdict}
 use Rattle.array.proofs.Bools.{and_true}
 use Rattle.array.proofs.Maps.{map_accepted}
 use Rattle.array.proofs.Formed.{formed}
 use Rattle.array.proofs.Places.{inner_holds}
 use Rattle.array.proofs.Verdicts.{accept_both}
-use Rattle.track.specs.Ports.{Compass, W, N}
+use Rattle.track.specs.declared.ports.Compass.{Compass}
+use Rattle.track.specs.declared.ports.Compass.TheVariants.{W, N}
 use Rattle.track.specs.Follower.{port_number}
 use Rattle.track.specs.Theorems.{Cell, Neighbour, right, lower}
 use Rattle.repair.specs.Operations.{follow_link}
@@ -27,7 +28,7 @@ use Rattle.runs.specs.Run.{run_test, neighbour_of, arrives_at, has_neighbour, re
 use Rattle.runs.proofs.LinkCount.{right_links, lower_links}
 
 -- the arguments are as demand 3 asks
-pub run_good : (g : Given) → run_test g ≡ Accepted → g.limit < 4294967296 → Good g
+pub run_good : (g : Given) → run_test g ≡ Ok tt → g.limit < 4294967296 → Good g
 run_good g passed u32 =
     let a = map_accepted g.n g.m (all_long (g.grid ∷ g.directions ∷ g.places ∷ g.across ∷ g.down ∷ [])) g.grid passed in
     let l = and_true (long g.grid) _ a.lengths in

@@ -1,5 +1,6 @@
 -- Laws of a link that is followed only where the cell has a neighbour, from where the placement holds the cell.
 -- Assumes nothing.
+use Rattle.std.specs.Prelude.{Ok}
 use mathlib.Core.Path.{◌≡◌, refl, sym, ap, ◌∙◌}
 use mathlib.Core.Bool.{Bool, true, false, not, ◌&&◌}
 use mathlib.Core.List.{List, [], ◌∷◌}
@@ -10,7 +11,6 @@ use lib.Dec.{ltb}
 use lib.ListN.{length, get_or}
 use Rattle.array.specs.Place.{inner}
 use Rattle.array.specs.Buffer.{all_long}
-use Rattle.array.specs.declared.Verdict.TheVariants.{Accepted}
 use Rattle.array.proofs.Bools.{and_true, by_eq}
 use Rattle.array.proofs.Places.{inner_holds}
 use Rattle.array.proofs.Verdicts.{accept_both, false_accepted}
@@ -18,7 +18,7 @@ use Rattle.plans.specs.Check.{plan_tests}
 use Rattle.track.specs.Ports.{Wafer}
 use Rattle.track.specs.Link.{run}
 use Rattle.track.specs.Follower.{by_side, seat_of, out_of, judged, followed}
-use Rattle.track.specs.declared.Followed.{Followed}
+use Rattle.track.specs.Follower.{Followed}
 use Rattle.repair.specs.Operations.{link_tests, follow_test, follow_link}
 use Rattle.repair.proofs.Calls.{follow_accepted}
 use Rattle.repair.proofs.Cells.{cell_low, placement_long, placement_at, seat_low}
@@ -71,7 +71,7 @@ module _ {w : Wafer} {places : List ℕ} (l : Laid w places) where
     pub held_low : get_or places p 0 < 1024
     held_low = omega (arith, held_at, seat_low w.rows w.columns w.grid w.directions p place)
 
-    accepted : follow_test w p side ≡ Accepted
+    accepted : follow_test w p side ≡ Ok tt
     unfolding link_tests
     accepted =
         let e : not (inner w.rows w.columns p && ltb side 2) ≡ false = rw (cell, lt-ltb side 2 low) in

@@ -1,5 +1,6 @@
 -- The three ends of a run: its tests refuse, the planner does not answer `repaired`, or every link is followed.
 -- Assumes nothing.
+use Rattle.std.specs.Prelude.{Ok, Err}
 use mathlib.Core.Path.{◌≡◌, refl, sym, ap, ◌∙◌}
 use mathlib.Core.Bool.{Bool, true, false, cond, ◌&&◌, false≢true}
 use mathlib.Core.List.{List}
@@ -7,8 +8,7 @@ use Prim.Native.Nat.{ℕ, ◌<◌}
 use native.Mathlib.Omega.{arith}
 use Rattle.array.specs.Buffer.{long}
 use Rattle.array.specs.declared.Refusal.{Refusal}
-use Rattle.array.specs.declared.Verdict.{Verdict}
-use Rattle.array.specs.declared.Verdict.TheVariants.{Accepted, Refused}
+use Rattle.array.specs.Tests.{Verdict}
 use Rattle.array.proofs.Bools.{and_true}
 use Rattle.array.proofs.Formed.{formed_lent, grid_and}
 use Rattle.array.proofs.Verdicts.{kept_refused, written_accepted}
@@ -25,11 +25,11 @@ use Rattle.runs.specs.Inner.{Accepts}
 use Rattle.runs.proofs.Every.{run_good, all_found}
 use Rattle.repair.specs.declared.Answer.TheVariants as the-answer
 
-never_both : {v : Verdict} {r : Refusal} → v ≡ Refused r → v ≡ Accepted → ⊥
+never_both : {v : Verdict} {r : Refusal} → v ≡ Err r → v ≡ Ok tt → ⊥
 never_both h a = let z : ◌≡◌ {A = ℕ} 0 1 = cc in omega arith
 
 module _ (g : Given) (u32 : g.limit < 4294967296) where
-  demand : run_test g ≡ Accepted → Good g × Demand3 g
+  demand : run_test g ≡ Ok tt → Good g × Demand3 g
   demand p = let d = run_good g p u32 in (d, demand_3 g d)
 
   -- how many links the calls after `repaired` find
@@ -38,7 +38,7 @@ module _ (g : Given) (u32 : g.limit < 4294967296) where
 
   -- The answer is a, b says whether it is `repaired`, and by b the other buffers are written or kept.
   ran : {a : Answer} {b : Bool} {ds places across down : List ℕ} {k : ℕ} → a ≡ run_answer g → is_repaired a ≡ b → ds ≡ run_directions g
-      → (run_test g ≡ Accepted → (a ≡ answer g) × (ds ≡ planned_directions g))
+      → (run_test g ≡ Ok tt → (a ≡ answer g) × (ds ≡ planned_directions g))
       → k ≡ cond b found_links 0 → places ≡ cond b (places_held g) g.places
       → across ≡ cond b (routed g).across g.across → down ≡ cond b (routed g).down g.down
       → (b ≡ true → found_links ≡ link_count g.n g.m)
@@ -59,7 +59,7 @@ module _ (g : Given) (u32 : g.limit < 4294967296) where
       }
 
   module _ {v : Verdict} (tested : v ≡ run_test g) where
-    pub ran_refused : {r : Refusal} → v ≡ Refused r
+    pub ran_refused : {r : Refusal} → v ≡ Err r
         → RanAs g (record { answer = the-answer.Refused r; links = 0 }) g.directions g.places g.across g.down
     unfolding run_answer run_directions
     ran_refused h =
@@ -67,13 +67,13 @@ module _ (g : Given) (u32 : g.limit < 4294967296) where
         (λ p. absurd (never_both (sym tested ∙ h) p)) refl refl refl refl (λ f. absurd (false≢true f))
 
     -- The tests pass, and the planner answers a and leaves ds in the direction buffer.
-    module _ (passed : v ≡ Accepted)
+    module _ (passed : v ≡ Ok tt)
         {a : Answer} (found : a ≡ answer_by g.planner g.limit (search_of g))
         {ds : List ℕ} (left : ds ≡ buffer_by g.planner g.limit (kept_of g) (left_of g) (search_of g)) where
-      passes : run_test g ≡ Accepted
+      passes : run_test g ≡ Ok tt
       passes = sym tested ∙ passed
 
-      planner_passes : planner_test g.n g.m g.grid g.directions ≡ Accepted
+      planner_passes : planner_test g.n g.m g.grid g.directions ≡ Ok tt
       planner_passes =
           let d = (demand passes).0 in
           formed_lent g.n g.m g.grid (long g.grid && (long g.directions && true)) d.map

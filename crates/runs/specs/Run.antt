@@ -1,22 +1,19 @@
 -- One run with any planner: what the function that makes its calls answers, and every buffer afterwards (document
 -- 00, demand 3; document 01, end of "Placement and routing"; document 02, T-05). Assumes nothing.
-use Rattle.std.specs.Prelude.{ℕ, ◌+◌, ◌-◌, ◌*◌, ◌≡◌, Bool, true, false, cond, ◌&&◌, List, [], ◌∷◌, ltb, leb, eqb, length, get_or}
+use Rattle.std.specs.Prelude.{ℕ, ◌+◌, ◌-◌, ◌*◌, ◌≡◌, Bool, true, false, cond, ◌&&◌, List, [], ◌∷◌, ltb, leb, eqb, length, get_or, Ok, Err}
 use Rattle.array.specs.Place.{row, column, inner}
 use Rattle.array.specs.Tests.{or_else}
 use Rattle.array.specs.Buffer.{written, positions_in}
 use Rattle.array.specs.Map.{map_test}
-use Rattle.array.specs.declared.Verdict.{Verdict}
-use Rattle.array.specs.declared.Verdict.TheVariants.{Accepted}
+use Rattle.array.specs.Tests.{Verdict}
 use Rattle.track.specs.Ports.{Wafer, wafer}
 use Rattle.track.specs.Follower.{by_side}
-use Rattle.track.specs.declared.Followed.{Followed}
+use Rattle.track.specs.Follower.{Followed}
 use Rattle.repair.specs.Operations.{told, answer_after, is_repaired, place_cells, places_after, route_switches, across_after, down_after, follow_link}
 use Rattle.repair.specs.Demand3.{Given, Good, answer, planned_directions, places_held, routed, Demand3}
 use Rattle.repair.specs.declared.Planner.{Planner}
 use Rattle.repair.specs.declared.Answer.{Answer}
 use Rattle.runs.specs.declared.Ran.{Ran}
-use Rattle.array.specs.declared.Verdict.TheVariants as verdict
-use Rattle.track.specs.declared.Followed.TheVariants as follow
 
 abbrev pub given : Planner → ℕ → ℕ → List ℕ → ℕ → List ℕ → List ℕ → List ℕ → List ℕ → Given
 given pl n m grid limit directions places across down =
@@ -67,8 +64,8 @@ neighbour_of side p = p + by_side side 1 32
 
 -- an answer of the follower: the link enters at position q, by port W on side 0 or N on side 1 (0 and 2), over at most three switches
 abbrev pub arrives_at : ℕ → ℕ → Followed → Bool
-arrives_at q side (follow.Entered l) = (eqb l.position q && eqb l.port (2 * side)) && leb l.switches 3
-arrives_at q side (follow.Refused r) = false
+arrives_at q side (Ok l) = (eqb l.position q && eqb l.port (2 * side)) && leb l.switches 3
+arrives_at q side (Err r) = false
 
 -- the link of the cell at p has a neighbour to reach, and the follower finds that it enters where `places` holds that neighbour
 abbrev pub reached : Wafer → List ℕ → ℕ → ℕ → ℕ → Bool
@@ -85,8 +82,8 @@ all_reached w places = links_reached w places 0 + links_reached w places 1
 
 -- none where a call refuses
 abbrev pub unless_refused_count : Verdict → ℕ → ℕ
-unless_refused_count verdict.Accepted k = k
-unless_refused_count (verdict.Refused r) k = 0
+unless_refused_count (Ok tt) k = k
+unless_refused_count (Err r) k = 0
 
 -- how many of all links are found to reach their neighbour, once placement and routing have been called
 unfoldable pub links_found : ℕ → ℕ → List ℕ → List ℕ → List ℕ → List ℕ → List ℕ → ℕ
@@ -114,7 +111,7 @@ pub record RanAs (g : Given) (r : Ran) (directions places across down : List ℕ
   pub places_are : places ≡ run_places g
   pub across_are : across ≡ run_across g
   pub down_are : down ≡ run_down g
-  pub demand_3 : run_test g ≡ Accepted → Good g × Demand3 g
-  pub spoken_of : run_test g ≡ Accepted → (r.answer ≡ answer g) × (directions ≡ planned_directions g)
+  pub demand_3 : run_test g ≡ Ok tt → Good g × Demand3 g
+  pub spoken_of : run_test g ≡ Ok tt → (r.answer ≡ answer g) × (directions ≡ planned_directions g)
   pub after_repaired : is_repaired r.answer ≡ true
       → (places ≡ places_held g) × (across ≡ (routed g).across) × (down ≡ (routed g).down) × (r.links ≡ link_count g.n g.m)

@@ -9,8 +9,13 @@ ghost use Rattle.repair.specs.declared.Answer.TheVariants.{Planned, Decided};
 ghost use Rattle.runs.specs.Run.{given, has_neighbour, neighbour_of, arrives_at, reached, links_reached, all_reached, links_found, RanAs};
 ghost use Rattle.runs.specs.Inner.{Accepts, Laid};
 
-use array::Verdict;
+mod placed;
+
+use array::{Map, Shape};
 use exact::Decision;
+use follower::Wafer;
+use placed::PlacedWafer;
+use plans::DirectedMap;
 use repair::{Answer, Planner};
 use track::Followed;
 use trials::Outcome;
@@ -24,43 +29,23 @@ pub struct Ran {
 
 // repair_run, run_quickly and run_exactly are for callers; the other functions are inner parts.
 
-fn is_outcome_repaired(outcome: Outcome) -> bool
-    ensures { result ≡ is_repaired (Planned outcome) }
-{
-    match outcome {
-        Outcome::Repaired(_) => true,
-        Outcome::Beyond(_) => false,
-        Outcome::Spent(_) => false,
-    }
-}
-
-fn is_decision_repaired(decision: Decision) -> bool
-    ensures { result ≡ is_repaired (Decided decision) }
-{
-    match decision {
-        Decision::Repaired => true,
-        Decision::Beyond => false,
-    }
-}
-
 fn is_repaired(answer: Answer) -> bool
     ensures { result ≡ is_repaired answer }
 {
-    match answer {
-        Answer::Planned(outcome) => is_outcome_repaired(outcome),
-        Answer::Decided(decision) => is_decision_repaired(decision),
-        Answer::Refused(_) => false,
-    }
+    matches!(
+        answer,
+        Answer::Planned(Outcome::Repaired(_)) | Answer::Decided(Decision::Repaired)
+    )
 }
 
 // Whether p is a cell with a neighbour on a side.
-fn has_neighbour(n: usize, m: usize, side: usize, p: usize) -> bool
-    ensures { result ≡ has_neighbour n m side p }
+fn has_neighbour(shape: Shape, side: usize, p: usize) -> bool
+    ensures { result ≡ has_neighbour shape.rows shape.columns side p }
 {
     if side == 0 {
-        array::is_inner(n, m, p) & (p % 32 < m)
+        shape.is_inner(p) & (p % 32 < shape.columns)
     } else {
-        array::is_inner(n, m, p) & (p / 32 < n)
+        shape.is_inner(p) & (p / 32 < shape.rows)
     }
 }
 
@@ -72,111 +57,40 @@ fn neighbour(side: usize, p: usize) -> usize
     if side == 0 { p + 1 } else { p + 32 }
 }
 
-// The position that holds the cell at p.
-fn held_at(places: &[u16], p: usize) -> usize
-    requires { (length places.now ≡ 1024) × (p < 1024) }
-    ensures { result ≡ get_or places.now p 0 }
-{
-    plans::wide(places[p])
-}
-
 // Whether the follower's answer is that the link enters at q, by the port of its side (W or N), over at most three switches.
 fn arrives(q: usize, side: usize, f: Followed) -> bool
     requires { side < 2 }
     ensures { result ≡ arrives_at q side f }
 {
     match f {
-        Followed::Entered(l) => ((l.position == q) & (l.port as usize == 2 * side))
-            & (l.switches <= 3),
-        Followed::Refused(_) => false,
+        Ok(l) => ((l.position == q) & (l.port as usize == 2 * side)) & (l.switches <= 3),
+        Err(_) => false,
     }
-}
-
-// Whether the cell at p has a neighbour on a side and its link is found to reach it.
-fn is_reached(
-    n: usize,
-    m: usize,
-    grid: &[u8],
-    directions: &[u8],
-    places: &[u16],
-    across: &[u8],
-    down: &[u8],
-    side: usize,
-    p: usize,
-) -> bool
-    requires { Laid (wafer n m grid.now directions.now across.now down.now) places.now × (side < 2) × (p < 1024) }
-    ensures { result ≡ reached (wafer n m grid.now directions.now across.now down.now) places.now side p 0 }
-{
-    if !has_neighbour(n, m, side, p) {
-        return false;
-    }
-    let from = held_at(places, p);
-    let to = held_at(places, neighbour(side, p));
-    let f = follower::follow(n, m, grid, directions, across, down, from, side as u8);
-    arrives(to, side, f)
-}
-
-// How many links on a side are found to reach their neighbour.
-fn count_links(
-    n: usize,
-    m: usize,
-    grid: &[u8],
-    directions: &[u8],
-    places: &[u16],
-    across: &[u8],
-    down: &[u8],
-    side: usize,
-) -> usize
-    requires { Laid (wafer n m grid.now directions.now across.now down.now) places.now × (side < 2) }
-    ensures { (result ≡ links_reached (wafer n m grid.now directions.now across.now down.now) places.now side) × (result ≤ 1024) }
-{
-    let mut count = 0;
-    for p in 0..1024 {
-        if is_reached(n, m, grid, directions, places, across, down, side, p) {
-            count += 1;
-        }
-    }
-    count
-}
-
-// How many links on both sides are found to reach their neighbour.
-fn count_all(
-    n: usize,
-    m: usize,
-    grid: &[u8],
-    directions: &[u8],
-    places: &[u16],
-    across: &[u8],
-    down: &[u8],
-) -> usize
-    requires { Laid (wafer n m grid.now directions.now across.now down.now) places.now }
-    ensures { result ≡ all_reached (wafer n m grid.now directions.now across.now down.now) places.now }
-{
-    let east = count_links(n, m, grid, directions, places, across, down, 0);
-    let south = count_links(n, m, grid, directions, places, across, down, 1);
-    east + south
 }
 
 // After `repaired`, where placement and routing would accept: writes both, and returns how many links are then found to reach their
 // neighbour.
 fn complete(
-    n: usize,
-    m: usize,
-    grid: &[u8],
-    directions: &[u8],
-    places: &mut [u16],
-    across: &mut [u8],
-    down: &mut [u8],
+    map: &Map,
+    directions: &[u8; 1024],
+    places: &mut [u16; 1024],
+    across: &mut [u8; 1024],
+    down: &mut [u8; 1024],
 ) -> usize
-    requires { Accepts n m grid.now directions.now places.old across.old down.old }
-    ensures links { result ≡ links_found n m grid.now directions.now places.old across.old down.old }
-    ensures places { places.new ≡ places_after n m grid.now directions.now places.old }
-    ensures across { across.new ≡ across_after n m grid.now directions.now across.old down.old }
-    ensures down { down.new ≡ down_after n m grid.now directions.now across.old down.old }
+    requires { Accepts map.now.shape.rows map.now.shape.columns map.now.grid.now directions.now places.old across.old down.old }
+    ensures links { result ≡ links_found map.now.shape.rows map.now.shape.columns map.now.grid.now directions.now places.old across.old down.old }
+    ensures places { places.new ≡ places_after map.now.shape.rows map.now.shape.columns map.now.grid.now directions.now places.old }
+    ensures across { across.new ≡ across_after map.now.shape.rows map.now.shape.columns map.now.grid.now directions.now across.old down.old }
+    ensures down { down.new ≡ down_after map.now.shape.rows map.now.shape.columns map.now.grid.now directions.now across.old down.old }
 {
-    routing::place(n, m, grid, directions, places);
-    routing::route(n, m, grid, directions, across, down);
-    count_all(n, m, grid, directions, places, across, down)
+    let plan = DirectedMap {
+        map: *map,
+        directions,
+    };
+    routing::place(&plan, places);
+    routing::route(&plan, across, down);
+    let wafer = Wafer { plan, across, down };
+    PlacedWafer { wafer, places }.count_all()
 }
 
 // One run with a planner.
@@ -199,18 +113,27 @@ pub fn run_by(
     let right = (grid.len() == 1024)
         & ((directions.len() == 1024)
             & ((places.len() == 1024) & ((across.len() == 1024) & (down.len() == 1024))));
-    let v = array::check_map(n, m, right, grid);
-    if let Verdict::Refused(r) = v {
-        return Ran {
-            answer: Answer::Refused(r),
-            links: 0,
-        };
-    }
-    let answer = repair::find_by(planner, n, m, grid, directions, limit);
+    let map = match array::check_map(n, m, right, grid) {
+        Ok(map) => map,
+        Err(refusal) => {
+            return Ran {
+                answer: Answer::Refused(refusal),
+                links: 0,
+            };
+        }
+    };
+    let directions: &mut [u8; 1024] = directions.as_mut_array().unwrap();
+    let answer = repair::find_by(planner, &map, directions, limit);
     if !is_repaired(answer) {
         return Ran { answer, links: 0 };
     }
-    let links = complete(n, m, grid, directions, places, across, down);
+    let links = complete(
+        &map,
+        directions,
+        places.as_mut_array().unwrap(),
+        across.as_mut_array().unwrap(),
+        down.as_mut_array().unwrap(),
+    );
     Ran { answer, links }
 }
 

@@ -1,63 +1,71 @@
 // The second placement: every cell at its own position, then the cells of each path moved on by one.
-use crate::buffers;
+use crate::maps::{Map, Mark, Path, Plan, Spot};
 
-// Moves the cells of the path from p, if there is one.
-fn shift(n: usize, m: usize, p: usize, d: u8, places: &mut [u16]) {
-    if d == 0 {
-        return;
+// Where each cell sits: the number of its processor, or 0 where no cell is.
+#[derive(Clone, Copy, PartialEq, Eq)]
+pub struct Places {
+    pub numbers: [u16; 1024],
+}
+
+impl Places {
+    // How many cells there are.
+    pub fn cells(&self) -> usize {
+        self.numbers.iter().filter(|number| **number != 0).count()
     }
-    let mut q = p;
-    for _ in 0..32usize {
-        if !buffers::is_inner(n, m, q) {
-            return;
+
+    pub fn spot(&self, cell: Spot) -> Spot {
+        Spot::at(usize::from(self.numbers[cell.position()]))
+    }
+
+    fn put(&mut self, cell: Spot, place: Spot) {
+        self.numbers[cell.position()] = place.position() as u16;
+    }
+
+    // Moves the cells of a path.
+    fn shift(&mut self, map: &Map, path: Path) {
+        let mut cell = path.start;
+        for _ in 0..32 {
+            if !map.is_inner(cell) {
+                return;
+            }
+            let next = cell.ahead(path.direction);
+            self.put(cell, next);
+            cell = next;
         }
-        let next = buffers::ahead(q, d);
-        buffers::put_place(places, q, next);
-        q = next;
     }
 }
 
-// Where the cell of p sits if it stays, or 0 where p has no cell.
-fn unmoved(n: usize, m: usize, p: usize) -> usize {
-    if buffers::is_inner(n, m, p) { p } else { 0 }
-}
-
-fn place_unmoved(n: usize, m: usize, places: &mut [u16]) {
-    for p in 0..1024 {
-        buffers::put_place(places, p, unmoved(n, m, p));
+// The cells where all of them stay.
+fn unmoved(map: &Map) -> Places {
+    let mut places = Places { numbers: [0; 1024] };
+    for cell in (0..1024).map(Spot::at) {
+        if map.is_inner(cell) {
+            places.put(cell, cell);
+        }
     }
+    places
 }
 
 // The placement of a plan.
-pub fn place(n: usize, m: usize, directions: &[u8], places: &mut [u16]) {
-    place_unmoved(n, m, places);
-    for p in 0..1024 {
-        shift(n, m, p, buffers::byte(directions, p), places);
+pub fn place(map: &Map, plan: &Plan) -> Places {
+    let mut places = unmoved(map);
+    for path in (0..1024).filter_map(|start| plan.path(Spot::at(start))) {
+        places.shift(map, path);
     }
-}
-
-// Whether the cell of p, if there is one, sits on a healthy processor that no cell before it has. Its processor is marked as taken.
-fn is_seated(n: usize, m: usize, grid: &[u8], places: &[u16], p: usize, taken: &mut [u8]) -> bool {
-    if !buffers::is_inner(n, m, p) {
-        return true;
-    }
-    let q = buffers::place(places, p);
-    let free = buffers::byte(taken, q) == 0;
-    buffers::put_byte(taken, q, 1);
-    free & (buffers::byte(grid, q) == 0)
-}
-
-fn are_all_seated(n: usize, m: usize, grid: &[u8], places: &[u16], taken: &mut [u8]) -> bool {
-    for p in 0..1024 {
-        if !is_seated(n, m, grid, places, p, taken) {
-            return false;
-        }
-    }
-    true
+    places
 }
 
 // Whether every cell has a healthy processor of its own.
-pub fn are_seated(n: usize, m: usize, grid: &[u8], places: &[u16]) -> bool {
-    let mut taken = [0u8; 1024];
-    are_all_seated(n, m, grid, places, &mut taken)
+pub fn are_seated(map: &Map, places: &Places) -> bool {
+    let mut taken = [false; 1024];
+    for cell in (0..1024).map(Spot::at) {
+        if map.is_inner(cell) {
+            let place = places.spot(cell);
+            if taken[place.position()] || map.mark(place) != Mark::Healthy {
+                return false;
+            }
+            taken[place.position()] = true;
+        }
+    }
+    true
 }

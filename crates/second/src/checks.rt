@@ -1,167 +1,111 @@
 // The second plan check: brute force over the processors of each path.
-use crate::buffers;
+use crate::maps::{Direction, Map, Path, Plan, Spot};
 
-// What the check finds: 0 where all is well, or document 01's number with its places.
+// What the check finds wrong, with its places.
 #[derive(Clone, Copy)]
-pub struct Finding {
-    pub number: u8,
-    pub place: usize,
-    pub second: usize,
+pub enum Finding {
+    Misplaced(Spot),
+    Blocked(Spot),
+    Shared(Spot, Spot),
+    Passed(Spot, Spot),
 }
 
-// Whether the path from p has a processor c.
-fn has_processor(n: usize, m: usize, p: usize, d: u8, c: usize) -> bool {
-    let mut q = p;
-    for _ in 0..32usize {
-        if q == c {
-            return true;
-        }
-        if !buffers::is_inner(n, m, q) {
-            return false;
-        }
-        q = buffers::ahead(q, d);
-    }
-    false
-}
-
-// Whether two paths share a processor.
-fn do_share(n: usize, m: usize, p: usize, d: u8, q: usize, e: u8) -> bool {
-    let mut c = q;
-    for _ in 0..32usize {
-        if has_processor(n, m, p, d, c) {
-            return true;
-        }
-        if !buffers::is_inner(n, m, c) {
-            return false;
-        }
-        c = buffers::ahead(c, e);
-    }
-    false
-}
-
-// Whether a processor after the start is faulty.
-fn is_met(n: usize, m: usize, grid: &[u8], p: usize, d: u8) -> bool {
-    let mut q = p;
-    for _ in 0..32usize {
-        if !buffers::is_inner(n, m, q) {
-            return false;
-        }
-        q = buffers::ahead(q, d);
-        if buffers::is_fault(grid, q) {
-            return true;
+impl Finding {
+    // Document 01's number, place and second place.
+    pub fn told(self) -> (u8, usize, usize) {
+        match self {
+            Finding::Misplaced(spot) => (4, spot.position(), 0),
+            Finding::Blocked(spot) => (5, spot.position(), 0),
+            Finding::Shared(first, second) => (6, first.position(), second.position()),
+            Finding::Passed(first, second) => (7, first.position(), second.position()),
         }
     }
-    false
 }
 
-// Whether a path is not open.
-pub fn is_blocked(n: usize, m: usize, grid: &[u8], p: usize, d: u8) -> bool {
-    buffers::is_stuck(n, m, grid, p, d) | is_met(n, m, grid, p, d)
-}
-
-fn are_beside(a: usize, b: usize) -> bool {
-    let i = a % 32;
-    let j = b % 32;
-    (i + 1 == j) | (j + 1 == i)
-}
-
-// Whether a path in direction d from p and one in direction e from q are a near-miss, in this order.
-fn do_pass(p: usize, d: u8, q: usize, e: u8) -> bool {
-    if (d == 1) & (e == 2) {
-        return are_beside(p, q) & (p / 32 < q / 32);
+impl Path {
+    fn has(self, map: &Map, goal: Spot) -> bool {
+        self.any(map, |spot| spot == goal)
     }
-    if (d == 3) & (e == 4) {
-        return are_beside(p / 32, q / 32) & (p % 32 < q % 32);
-    }
-    false
-}
 
-fn report(number: u8, place: usize, second: usize) -> Finding {
-    Finding {
-        number,
-        place,
-        second,
+    // Whether two paths share a processor.
+    fn is_sharing(self, map: &Map, other: Path) -> bool {
+        other.any(map, |spot| self.has(map, spot))
+    }
+
+    // Whether this path and the other one are a near-miss, in this order.
+    fn is_passing(self, other: Path) -> bool {
+        let a = self.start;
+        let b = other.start;
+        match (self.direction, other.direction) {
+            (Direction::South, Direction::North) => are_beside(a.column, b.column) && a.row < b.row,
+            (Direction::East, Direction::West) => are_beside(a.row, b.row) && a.column < b.column,
+            _ => false,
+        }
     }
 }
 
-fn is_misplaced(n: usize, m: usize, grid: &[u8], d: u8, p: usize) -> bool {
-    if buffers::is_inner(n, m, p) & buffers::is_fault(grid, p) {
-        (d < 1) | (4 < d)
+fn are_beside(i: usize, j: usize) -> bool {
+    i.abs_diff(j) == 1
+}
+
+// Whether a spot has no direction and needs one, or has one and may not.
+fn is_misplaced(map: &Map, plan: &Plan, spot: Spot) -> bool {
+    if map.is_inner_fault(spot) {
+        plan.direction(spot).is_none()
     } else {
-        d != 0
+        plan.directions[spot.position()] != 0
     }
 }
 
-// Number 4.
-fn find_misplaced(n: usize, m: usize, grid: &[u8], directions: &[u8]) -> Finding {
-    for p in 0..1024 {
-        if is_misplaced(n, m, grid, buffers::byte(directions, p), p) {
-            return report(4, p, 0);
+fn check_directions(map: &Map, plan: &Plan) -> Result<(), Finding> {
+    match (0..1024)
+        .map(Spot::at)
+        .find(|spot| is_misplaced(map, plan, *spot))
+    {
+        Some(spot) => Err(Finding::Misplaced(spot)),
+        None => Ok(()),
+    }
+}
+
+fn check_open(map: &Map, plan: &Plan) -> Result<(), Finding> {
+    for path in (0..1024).filter_map(|start| plan.path(Spot::at(start))) {
+        if path.is_blocked(map) {
+            return Err(Finding::Blocked(path.start));
         }
     }
-    report(0, 0, 0)
+    Ok(())
 }
 
-// Number 5.
-fn find_blocked(n: usize, m: usize, grid: &[u8], directions: &[u8]) -> Finding {
-    for p in 0..1024 {
-        let d = buffers::byte(directions, p);
-        if (d != 0) & is_blocked(n, m, grid, p, d) {
-            return report(5, p, 0);
-        }
+// Two paths, the earlier one first.
+fn check_two(map: &Map, path: Path, other: Path) -> Result<(), Finding> {
+    if path.is_sharing(map, other) {
+        return Err(Finding::Shared(path.start, other.start));
     }
-    report(0, 0, 0)
+    if path.is_passing(other) || other.is_passing(path) {
+        return Err(Finding::Passed(path.start, other.start));
+    }
+    Ok(())
 }
 
-// Numbers 6 and 7 of the paths from p and q, where q is later and both have a path.
-fn find_between(n: usize, m: usize, p: usize, d: u8, q: usize, e: u8) -> Finding {
-    if ((q <= p) | (d == 0)) | (e == 0) {
-        return report(0, 0, 0);
+// A path and all later ones.
+fn check_later(map: &Map, plan: &Plan, path: Path) -> Result<(), Finding> {
+    let later = path.start.position() + 1..1024;
+    for other in later.filter_map(|start| plan.path(Spot::at(start))) {
+        check_two(map, path, other)?;
     }
-    if do_share(n, m, p, d, q, e) {
-        return report(6, p, q);
-    }
-    if do_pass(p, d, q, e) | do_pass(q, e, p, d) {
-        return report(7, p, q);
-    }
-    report(0, 0, 0)
+    Ok(())
 }
 
-// Numbers 6 and 7 of the path from p and a later one.
-fn find_later(n: usize, m: usize, directions: &[u8], p: usize) -> Finding {
-    let d = buffers::byte(directions, p);
-    if d == 0 {
-        return report(0, 0, 0);
+fn check_pairs(map: &Map, plan: &Plan) -> Result<(), Finding> {
+    for path in (0..1024).filter_map(|start| plan.path(Spot::at(start))) {
+        check_later(map, plan, path)?;
     }
-    for q in 0..1024 {
-        let f = find_between(n, m, p, d, q, buffers::byte(directions, q));
-        if f.number != 0 {
-            return f;
-        }
-    }
-    report(0, 0, 0)
-}
-
-// Numbers 6 and 7.
-fn find_pair(n: usize, m: usize, directions: &[u8]) -> Finding {
-    for p in 0..1024 {
-        let f = find_later(n, m, directions, p);
-        if f.number != 0 {
-            return f;
-        }
-    }
-    report(0, 0, 0)
+    Ok(())
 }
 
 // The plan check on a well-formed map.
-pub fn check(n: usize, m: usize, grid: &[u8], directions: &[u8]) -> Finding {
-    let a = find_misplaced(n, m, grid, directions);
-    if a.number != 0 {
-        return a;
-    }
-    let b = find_blocked(n, m, grid, directions);
-    if b.number != 0 {
-        return b;
-    }
-    find_pair(n, m, directions)
+pub fn check(map: &Map, plan: &Plan) -> Result<(), Finding> {
+    check_directions(map, plan)?;
+    check_open(map, plan)?;
+    check_pairs(map, plan)
 }

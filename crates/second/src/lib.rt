@@ -2,9 +2,9 @@
 // They are proved safe, and nothing is promised of what they compute.
 #![tactic(auto)]
 
-pub mod buffers;
 pub mod cells;
 pub mod checks;
 pub mod links;
+pub mod maps;
 pub mod planner;
 pub mod switches;

@@ -1,304 +1,323 @@
 // The second follower, over a lattice of 64 rows and 64 columns of nodes: processors have an even row and an even column, across switches an even
 // row and an odd column, down switches an odd row and an even column, and each switch is between its two processors.
-use crate::{buffers, switches};
+ghost use Rattle.std.specs.Prelude.{◌<◌};
 
-// A link followed: the node it is at, the side it leaves by (0 W, 1 E, 2 N, 3 S), the switches passed, and its state:
-// 0 goes on, 1 has entered the processor by that side, 2 has no track ahead.
+use crate::maps::{Direction, Map, Mark, Plan, Spot};
+
+// The sides of a node, in the order of the ports.
+#[derive(Clone, Copy, PartialEq, Eq)]
+pub enum Side {
+    West,
+    East,
+    North,
+    South,
+}
+
+impl Side {
+    fn is_vertical(self) -> bool {
+        matches!(self, Side::North | Side::South)
+    }
+
+    pub fn opposite(self) -> Side {
+        match self {
+            Side::West => Side::East,
+            Side::East => Side::West,
+            Side::North => Side::South,
+            Side::South => Side::North,
+        }
+    }
+
+    // The side across the west lower or the upper east corner.
+    fn turned(self) -> Side {
+        match self {
+            Side::West => Side::South,
+            Side::East => Side::North,
+            Side::North => Side::East,
+            Side::South => Side::West,
+        }
+    }
+
+    // The opposite side where track runs straight from side to side, in one of the two ways.
+    fn through(self, is_vertical: bool) -> Option<Side> {
+        if self.is_vertical() == is_vertical {
+            Some(self.opposite())
+        } else {
+            None
+        }
+    }
+
+    // The side that a switch with this letter joins to a side.
+    fn joined(self, is_across: bool, letter: u8) -> Option<Side> {
+        match letter {
+            b'a' => self.through(is_across),
+            b'b' => self.through(!is_across),
+            b'c' => Some(self.turned()),
+            b'd' => Some(self.turned().opposite()),
+            _ => None,
+        }
+    }
+}
+
+// What stands at a node.
+#[derive(Clone, Copy, PartialEq, Eq)]
+enum Kind {
+    Processor,
+    Across,
+    Down,
+    Nothing,
+}
+
 #[derive(Clone, Copy)]
-pub struct Walk {
-    pub node: usize,
-    pub side: u8,
+struct Node {
+    row: usize,
+    column: usize,
+    ghost row_within: { row < 64 },
+    ghost column_within: { column < 64 },
+}
+
+impl Node {
+    // The node of the processor at a spot.
+    fn of(spot: Spot) -> Node {
+        Node {
+            row: 2 * spot.row,
+            column: 2 * spot.column,
+        }
+    }
+
+    // The spot that a node is filed under.
+    fn spot(self) -> Spot {
+        Spot {
+            row: self.row / 2,
+            column: self.column / 2,
+        }
+    }
+
+    fn number(self) -> usize
+        ensures { result < 4096 }
+    {
+        64 * self.row + self.column
+    }
+
+    fn kind(self) -> Kind {
+        match (self.row % 2 == 0, self.column % 2 == 0) {
+            (true, true) => Kind::Processor,
+            (true, false) => Kind::Across,
+            (false, true) => Kind::Down,
+            (false, false) => Kind::Nothing,
+        }
+    }
+
+    // Whether a processor or a switch is at a node.
+    fn exists(self, map: &Map) -> bool {
+        let spot = self.spot();
+        match self.kind() {
+            Kind::Processor => map.is_there(spot),
+            Kind::Across => map.beyond_switch(spot, Direction::East).is_some(),
+            Kind::Down => map.beyond_switch(spot, Direction::South).is_some(),
+            Kind::Nothing => false,
+        }
+    }
+
+    // The node beyond a side. Along a channel of switches every second node of the lattice is empty.
+    fn beyond(self, side: Side) -> Option<Node> {
+        let Node { row, column } = self;
+        let (row, column) = match side {
+            Side::West => (row, column.checked_sub(1 + row % 2)?),
+            Side::East => (row, column + 1 + row % 2),
+            Side::North => (row.checked_sub(1 + column % 2)?, column),
+            Side::South => (row + 1 + column % 2, column),
+        };
+        if row < 64 && column < 64 {
+            Some(Node { row, column })
+        } else {
+            None
+        }
+    }
+
+    // A number for each stretch to the east or south, below 8,192.
+    fn stretch(self, is_vertical: bool) -> usize
+        ensures { result < 8192 }
+    {
+        2 * self.number() + usize::from(is_vertical)
+    }
+
+    // A number for each join of two sides, from 8,192 on.
+    fn join(self, first: Side, second: Side) -> usize
+        ensures { result < 73728 }
+    {
+        let sides = 1usize << (first as u32) | 1usize << (second as u32);
+        8192 + 16 * self.number() + sides % 16
+    }
+}
+
+// The pieces of track that links run over. A piece is marked with the number of the last link over it; those of earlier maps have
+// numbers below the first one of this map.
+#[derive(Clone, Copy)]
+pub struct Marks {
+    links: [u32; 73728],
+    link: u32,
+    first: u32,
+    // How many pieces the links of the map run over.
+    pub pieces: u32,
+    // How many pieces two links of the map have in common.
+    pub shared: u32,
+}
+
+impl Marks {
+    pub fn new() -> Marks {
+        Marks {
+            links: [0; 73728],
+            link: 0,
+            first: 1,
+            pieces: 0,
+            shared: 0,
+        }
+    }
+
+    // Begins a map: the next link is its first.
+    pub fn begin(&mut self) {
+        self.first = self.link.wrapping_add(1);
+        self.pieces = 0;
+        self.shared = 0;
+    }
+
+    // Marks a piece with the number of the link.
+    fn mark(&mut self, piece: usize)
+        requires { piece < 73728 }
+    {
+        let last = self.links[piece];
+        if last == self.link {
+            return;
+        }
+        self.links[piece] = self.link;
+        self.pieces = self.pieces.wrapping_add(1);
+        if self.first <= last {
+            self.shared = self.shared.wrapping_add(1);
+        }
+    }
+}
+
+// A map and a plan with the letters of the switches.
+#[derive(Clone, Copy)]
+pub struct Track {
+    pub map: Map,
+    pub plan: Plan,
+    pub across: [u8; 1024],
+    pub down: [u8; 1024],
+}
+
+// A link on its way: the node it is at, the side it leaves by, and the switches passed.
+#[derive(Clone, Copy)]
+struct Walk {
+    node: Node,
+    side: Side,
+    switches: u8,
+}
+
+// The processor that a link enters, by which side, and the switches passed.
+#[derive(Clone, Copy)]
+pub struct Landing {
+    pub spot: Spot,
+    pub side: Side,
     pub switches: u8,
-    pub state: u8,
 }
 
-// What is joined to each side of a switch, W E N S in turn, for the letters a to d: none, or the other side.
-fn switch_join(is_across: bool, letter: u8, side: u8) -> u8 {
-    if letter < b'a' {
-        return b'-';
-    }
-    if b'd' < letter {
-        return b'-';
-    }
-    let i = 4 * ((letter - b'a') as usize) + (side % 4) as usize;
-    if is_across {
-        buffers::byte(b"--SNEW--SNEWNSWE", i)
-    } else {
-        buffers::byte(b"EW----SNSNEWNSWE", i)
+impl Landing {
+    // The position, the port and the switches.
+    pub fn told(self) -> (usize, u8, u8) {
+        (self.spot.position(), self.side as u8, self.switches)
     }
 }
 
-// The same of a fault, by its direction: its path runs from north to south or from west to east.
-fn fault_join(d: u8, side: u8) -> u8 {
-    let i = (side % 4) as usize;
-    if d <= 2 {
-        buffers::byte(b"--SN", i)
-    } else {
-        buffers::byte(b"EW--", i)
+// Where a link is after a stretch.
+#[derive(Clone, Copy)]
+enum Step {
+    On(Walk),
+    Entered(Landing),
+}
+
+impl Track {
+    // What a fault joins to a side: nothing where it is dead, else what its path runs through.
+    fn fault_join(&self, spot: Spot, side: Side) -> Option<Side> {
+        if self.map.mark(spot) == Mark::Dead {
+            return None;
+        }
+        side.through(self.plan.direction(spot)?.is_vertical())
     }
-}
 
-fn side_of(letter: u8) -> u8 {
-    match letter {
-        b'W' => 0,
-        b'E' => 1,
-        b'N' => 2,
-        b'S' => 3,
-        _ => 4,
-    }
-}
-
-// The node that no track leads to.
-const NOWHERE: usize = 4095;
-
-// How far the next node is: along a channel of switches every second node of the lattice is empty.
-fn hop_of(row: usize, column: usize, side: u8) -> u8 {
-    if side < 2 {
-        1 + (row % 2) as u8
-    } else {
-        1 + (column % 2) as u8
-    }
-}
-
-// The node beyond a side.
-fn beyond(node: usize, side: u8) -> usize {
-    let row = (node / 64) % 64;
-    let column = node % 64;
-    let hop = hop_of(row, column, side) as usize;
-    match side {
-        0 => node_at(row, column, 0, hop),
-        1 => node_at(row, column + hop, 0, 0),
-        2 => node_at(row, column, hop, 0),
-        _ => node_at(row + hop, column, 0, 0),
-    }
-}
-
-// The node at a row and column that are taken back by some rows and columns.
-fn node_at(row: usize, column: usize, up: usize, left: usize) -> usize {
-    if row < up {
-        return NOWHERE;
-    }
-    if column < left {
-        return NOWHERE;
-    }
-    let x = row - up;
-    let y = column - left;
-    if 63 < x {
-        return NOWHERE;
-    }
-    if 63 < y {
-        return NOWHERE;
-    }
-    64 * x + y
-}
-
-// The position that a node is filed under.
-pub fn position_of(node: usize) -> usize {
-    32 * ((node / 128) % 32) + (node % 64) / 2
-}
-
-// What stands at a node: 0 a processor, 1 an across switch, 2 a down switch, 3 nothing.
-fn kind_of(node: usize) -> usize {
-    2 * ((node / 64) % 2) + node % 2
-}
-
-// Whether a processor or a switch is at a node.
-fn exists(grid: &[u8], node: usize) -> bool {
-    let x = (node / 128) % 32;
-    let y = (node % 64) / 2;
-    let here = switches::is_there(grid, x, y);
-    match kind_of(node) {
-        0 => here,
-        1 => here & switches::is_there(grid, x, y + 1),
-        2 => here & switches::is_there(grid, x + 1, y),
-        _ => false,
-    }
-}
-
-// A number for each stretch, below 8,192: the node at its west or upper end, and whether it runs east or south.
-fn stretch_number(node: usize, side: u8) -> usize {
-    let first = if side % 2 == 0 {
-        beyond(node, side)
-    } else {
-        node
-    };
-    2 * (first % 4096) + ((side / 2) % 2) as usize
-}
-
-// Two sides, the lower one first, as a number: WE, WN, WS, EN, ES, NS are 0 to 5.
-fn pair_number(a: u8, b: u8) -> u8 {
-    match 4 * (a % 4) + b % 4 {
-        1 => 0,
-        2 => 1,
-        3 => 2,
-        6 => 3,
-        7 => 4,
-        11 => 5,
-        _ => 6,
-    }
-}
-
-// A number for each join, from 8,192 on and below 40,960: its node and the two sides.
-fn join_number(node: usize, a: u8, b: u8) -> usize {
-    let pair = if a < b {
-        pair_number(a, b)
-    } else {
-        pair_number(b, a)
-    };
-    8192 + 8 * (node % 4096) + (pair % 8) as usize
-}
-
-// Behind the marks of all pieces stand the number of the link that is followed, the number of the map's first one, and how many pieces were
-// marked on the map and how many of them twice, by two links.
-const LINK: usize = 40960;
-
-const FIRST: usize = 40961;
-
-const PIECES: usize = 40962;
-
-const SHARED: usize = 40963;
-
-fn add_one(marks: &mut [u32], i: usize) {
-    let old = buffers::mask(marks, i);
-    buffers::put_mask(marks, i, std::num::wrapping_add_u32(old, 1));
-}
-
-// Marks a piece with the number of the link. Links of earlier maps have numbers below the first one.
-fn mark_piece(marks: &mut [u32], piece: usize) {
-    let old = buffers::mask(marks, piece);
-    let link = buffers::mask(marks, LINK);
-    let first = buffers::mask(marks, FIRST);
-    buffers::put_mask(marks, piece, link);
-    if old != link {
-        add_one(marks, PIECES);
-        if first <= old {
-            add_one(marks, SHARED);
+    // The side that a node joins to a side, and whether it is a switch.
+    fn join(&self, node: Node, side: Side) -> Option<Side> {
+        let spot = node.spot();
+        match node.kind() {
+            Kind::Processor => self.fault_join(spot, side),
+            Kind::Across => side.joined(true, self.across[spot.position()]),
+            _ => side.joined(false, self.down[spot.position()]),
         }
     }
-}
 
-// Begins a map: the next link is its first.
-pub fn begin(marks: &mut [u32]) {
-    let last = buffers::mask(marks, LINK);
-    buffers::put_mask(marks, FIRST, std::num::wrapping_add_u32(last, 1));
-    buffers::put_mask(marks, PIECES, 0);
-    buffers::put_mask(marks, SHARED, 0);
-}
-
-// How many pieces the links of the map run over.
-pub fn pieces(marks: &[u32]) -> u32 {
-    buffers::mask(marks, PIECES)
-}
-
-// How many pieces two links of the map have in common.
-pub fn shared(marks: &[u32]) -> u32 {
-    buffers::mask(marks, SHARED)
-}
-
-// What a fault at p joins to a side: nothing where it is dead.
-fn processor_join(grid: &[u8], directions: &[u8], p: usize, side: u8) -> u8 {
-    if buffers::byte(grid, p) == 3 {
-        return 0;
+    // Whether the processor at a node has no path, and so joins nothing.
+    fn is_end(&self, node: Node) -> bool {
+        node.kind() == Kind::Processor && self.plan.direction(node.spot()).is_none()
     }
-    fault_join(buffers::byte(directions, p), side)
-}
 
-// The letter of the side that a node joins to a side, or another byte where there is none.
-fn join_at(
-    grid: &[u8],
-    directions: &[u8],
-    across: &[u8],
-    down: &[u8],
-    node: usize,
-    side: u8,
-) -> u8 {
-    let p = position_of(node);
-    match kind_of(node) {
-        0 => processor_join(grid, directions, p, side),
-        1 => switch_join(true, buffers::byte(across, p), side),
-        _ => switch_join(false, buffers::byte(down, p), side),
-    }
-}
-
-fn halted(w: Walk, node: usize, side: u8, state: u8) -> Walk {
-    Walk {
-        node,
-        side,
-        switches: w.switches,
-        state,
-    }
-}
-
-// A processor entered that joins nothing. A faulty one is a spare, where the track ends.
-fn entered(grid: &[u8], w: Walk, node: usize, side: u8) -> Walk {
-    if buffers::byte(grid, position_of(node)) == 0 {
-        halted(w, node, side, 1)
-    } else {
-        halted(w, node, side, 2)
-    }
-}
-
-fn switches_after(w: Walk, node: usize) -> u8 {
-    if kind_of(node) == 0 {
-        w.switches
-    } else {
-        std::num::wrapping_add_u8(w.switches, 1)
-    }
-}
-
-// One stretch, and the join behind it.
-fn advance(
-    grid: &[u8],
-    directions: &[u8],
-    across: &[u8],
-    down: &[u8],
-    w: Walk,
-    marks: &mut [u32],
-) -> Walk {
-    let node = beyond(w.node, w.side);
-    if !exists(grid, node) {
-        return halted(w, w.node, w.side, 2);
-    }
-    mark_piece(marks, stretch_number(w.node, w.side));
-    let side = w.side ^ 1;
-    if (kind_of(node) == 0) & (buffers::byte(directions, position_of(node)) == 0) {
-        return entered(grid, w, node, side);
-    }
-    let out = side_of(join_at(grid, directions, across, down, node, side));
-    if 3 < out {
-        return halted(w, node, side, 2);
-    }
-    mark_piece(marks, join_number(node, side, out));
-    Walk {
-        node,
-        side: out,
-        switches: switches_after(w, node),
-        state: 0,
-    }
-}
-
-// The link that leaves the processor at p by its east (side 0) or south (1) port. Every piece that it runs over is marked.
-pub fn follow(
-    grid: &[u8],
-    directions: &[u8],
-    across: &[u8],
-    down: &[u8],
-    p: usize,
-    side: u8,
-    marks: &mut [u32],
-) -> Walk {
-    add_one(marks, LINK);
-    let mut w = Walk {
-        node: 128 * ((p / 32) % 32) + 2 * (p % 32),
-        side: 1 + 2 * (side % 2),
-        switches: 0,
-        state: 0,
-    };
-    for _ in 0..64usize {
-        if w.state != 0 {
-            return w;
+    // A processor entered where a link ends. A faulty one is a spare, where the track ends.
+    fn entered(&self, node: Node, side: Side, switches: u8) -> Option<Step> {
+        let spot = node.spot();
+        if self.map.mark(spot) == Mark::Healthy {
+            Some(Step::Entered(Landing {
+                spot,
+                side,
+                switches,
+            }))
+        } else {
+            None
         }
-        w = advance(grid, directions, across, down, w, marks);
     }
-    w
+
+    // One stretch, and the join behind it; None where no track is ahead.
+    fn advance(&self, walk: Walk, marks: &mut Marks) -> Option<Step> {
+        let node = walk.node.beyond(walk.side)?;
+        if !node.exists(&self.map) {
+            return None;
+        }
+        let first = if matches!(walk.side, Side::East | Side::South) {
+            walk.node
+        } else {
+            node
+        };
+        marks.mark(first.stretch(walk.side.is_vertical()));
+        let side = walk.side.opposite();
+        if self.is_end(node) {
+            return self.entered(node, side, walk.switches);
+        }
+        let out = self.join(node, side)?;
+        marks.mark(node.join(side, out));
+        let switches = if node.kind() == Kind::Processor {
+            walk.switches
+        } else {
+            walk.switches.wrapping_add(1)
+        };
+        Some(Step::On(Walk {
+            node,
+            side: out,
+            switches,
+        }))
+    }
+
+    // The link that leaves the processor at a spot by a port, to the processor that it enters. Every piece that it runs over is marked.
+    pub fn follow(&self, from: Spot, port: Side, marks: &mut Marks) -> Option<Landing> {
+        marks.link = marks.link.wrapping_add(1);
+        let mut walk = Walk {
+            node: Node::of(from),
+            side: port,
+            switches: 0,
+        };
+        for _ in 0..64 {
+            match self.advance(walk, marks)? {
+                Step::On(next) => walk = next,
+                Step::Entered(landing) => return Some(landing),
+            }
+        }
+        None
+    }
 }

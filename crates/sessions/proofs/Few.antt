@@ -1,5 +1,6 @@
 -- The kept paths of a plan that a counter counts are no more than the plan's faults, and these no more than the spares.
 -- Assumes nothing.
+use Rattle.std.specs.Prelude.{Ok}
 use Prim.Native.Nat.{ℕ, suc, ◌+◌, ◌*◌, ◌≤◌, ◌<◌}
 use mathlib.Core.Path.{◌≡◌, refl, sym, ap, subst, ◌∙◌}
 use mathlib.Core.Bool.{Bool, true, false, cond, false≢true}
@@ -9,7 +10,6 @@ use native.Mathlib.Nat.{suc-ne-zero, add-zero, zero-add, add-suc, suc-add}
 use lib.ListN.{length, get_or}
 use Rattle.array.specs.Buffer.{positions_along, positions_in}
 use Rattle.array.specs.Map.{inner_faulty, inner_fault}
-use Rattle.array.specs.declared.Verdict.TheVariants.{Accepted}
 use Rattle.array.proofs.Bools.{by_bool}
 use Rattle.array.proofs.Marks.{inner_fault_read}
 use Rattle.plans.specs.Faults.{faults}
@@ -49,7 +49,7 @@ count_fewer t u b c e h =
     along_fewer t u 0 b c e
     (λ k l. subst (λ (j : ℕ). t j (get_or b k 0) ≡ true → u j (get_or c k 0) ≡ true) (sym (zero-add k)) (h k l))
 
-module _ (n m : ℕ) (grid directions : List ℕ) (h : check_plan n m grid directions ≡ Accepted) (d p : ℕ) where
+module _ (n m : ℕ) (grid directions : List ℕ) (h : check_plan n m grid directions ≡ Ok tt) (d p : ℕ) where
   tall : length grid ≡ 1024
   tall = (map_formed n m grid directions h).length_is
 
@@ -75,7 +75,7 @@ module _ (n m : ℕ) (grid directions : List ℕ) (h : check_plan n m grid direc
       let b = plan_spares n m grid _ z.rows_high z.columns_high ((accepts_plans n m grid directions).0 h).plan in
       omega (arith, a, b)
 
-pub kept : (n m : ℕ) (grid directions : List ℕ) → check_plan n m grid directions ≡ Accepted → Kept n m directions
+pub kept : (n m : ℕ) (grid directions : List ℕ) → check_plan n m grid directions ≡ Ok tt → Kept n m directions
 kept n m grid directions h =
     let s = started n m grid directions h in
     let z = (map_formed n m grid directions h).sizes in

@@ -1,6 +1,5 @@
 pub mod OnPath
-pub mod Stood
 pub mod Judging
+pub mod Stood
 pub mod Few
-pub mod Reports
 pub mod Numbered

@@ -1,12 +1,11 @@
 -- Document 02, T-07: the session, its start, and what a report answers and leaves.
 -- Assumes nothing.
-use Rattle.std.specs.Prelude.{ℕ, Bool, cond, not, ◌&&◌, List, eqb, get_or, set}
+use Rattle.std.specs.Prelude.{ℕ, Bool, cond, not, ◌&&◌, List, eqb, get_or, set, Ok, Err}
 use Rattle.array.specs.Place.{inner, processor}
 use Rattle.array.specs.Buffer.{zeros}
 use Rattle.array.specs.Map.{faulty, healthy, dead}
 use Rattle.array.specs.Tests.{or_else, refuse_if, first_in}
-use Rattle.array.specs.declared.Verdict.{Verdict}
-use Rattle.array.specs.declared.Verdict.TheVariants.{Accepted, Refused}
+use Rattle.array.specs.Tests.{Verdict}
 use Rattle.paths.specs.Path.{member, path, is_open}
 use Rattle.plans.specs.Check.{check_plan}
 use Rattle.counters.specs.Count.{counters_afresh, counters_after}
@@ -27,8 +26,8 @@ session n m grid directions south north east west =
 
 -- a session after a call: the new one where the call is accepted, else the old one
 abbrev pub session_if : Verdict → Session → Session → Session
-session_if Accepted new old = new
-session_if (Refused r) new old = old
+session_if (Ok tt) new old = new
+session_if (Err r) new old = old
 
 -- THE START. What stands for a session where it is refused, and the session of a plan, each counter made afresh.
 abbrev pub no_session : Session

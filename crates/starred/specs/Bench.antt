@@ -1,6 +1,6 @@
 -- Document 01, "The bench program": what its example shows of the bytes 02 02 01 01 01.
 -- Assumes nothing.
-use Rattle.std.specs.Prelude.{ℕ, ◌≡◌, List, [], ◌∷◌, take}
+use Rattle.std.specs.Prelude.{ℕ, ◌≡◌, List, [], ◌∷◌, take, Ok}
 use Rattle.array.specs.Buffer.{zeros}
 use Rattle.plans.specs.Faults.{faults, fault, directions_at}
 use Rattle.trials.specs.Search.{planned, outcome, directions_written}
@@ -8,9 +8,7 @@ use Rattle.trials.specs.declared.Outcome.TheVariants.{Repaired}
 use Rattle.track.specs.Placement.{placement}
 use Rattle.track.specs.Letters.{b, c, d, across_letters, down_letters}
 use Rattle.readers.specs.Reading.{read_map}
-use Rattle.readers.specs.declared.MapRead.TheVariants.{File}
 use Rattle.writers.specs.Writing.{write_map}
-use Rattle.writers.specs.declared.FileWritten.TheVariants.{Length}
 use Rattle.starred.specs.Grids.{grid_of, directions_of, shown}
 
 abbrev pub grid : List ℕ
@@ -22,11 +20,11 @@ written = directions_written 1000000 [] (faults 2 2 grid) (planned 2 2 grid)
 
 pub record Example : Type 0 where
   -- map 2 2 1
-  pub map_read : read_map (2 ∷ 2 ∷ 1 ∷ 1 ∷ 1 ∷ []) zeros ≡ (File (record { rows = 2; columns = 2; count = 1 }), grid)
+  pub map_read : read_map (2 ∷ 2 ∷ 1 ∷ 1 ∷ 1 ∷ []) zeros ≡ (Ok (record { rows = 2; columns = 2; count = 1 }), grid)
   -- written over six other bytes, of which the last is kept, and read again
-  pub map_written : write_map 2 2 grid (9 ∷ 9 ∷ 9 ∷ 9 ∷ 9 ∷ 9 ∷ []) ≡ (Length 5, 2 ∷ 2 ∷ 1 ∷ 1 ∷ 1 ∷ 9 ∷ [])
+  pub map_written : write_map 2 2 grid (9 ∷ 9 ∷ 9 ∷ 9 ∷ 9 ∷ 9 ∷ []) ≡ (Ok 5, 2 ∷ 2 ∷ 1 ∷ 1 ∷ 1 ∷ 9 ∷ [])
   pub map_again : read_map (take 5 (write_map 2 2 grid (9 ∷ 9 ∷ 9 ∷ 9 ∷ 9 ∷ 9 ∷ [])).1) zeros
-      ≡ (File (record { rows = 2; columns = 2; count = 1 }), grid)
+      ≡ (Ok (record { rows = 2; columns = 2; count = 1 }), grid)
   -- repaired 1; path 1 1 S
   pub repaired : outcome 1000000 (planned 2 2 grid) ≡ Repaired 1
   pub path_south : directions_at written (faults 2 2 grid) ≡ 1 ∷ []

@@ -1,10 +1,9 @@
 -- Document 02, T-04, computed: where a path from a dead processor is open, what the planner finds, and a link that enters one.
 -- Assumes nothing.
-use Rattle.std.specs.Prelude.{ℕ, ◌≡◌, Bool, true, false, List, [], ◌∷◌, set}
+use Rattle.std.specs.Prelude.{ℕ, ◌≡◌, Bool, true, false, List, [], ◌∷◌, set, Ok, Err}
 use Rattle.array.specs.Buffer.{zeros}
 use Rattle.array.specs.Map.{well_formed}
 use Rattle.array.specs.Tests.{refusal, refuse}
-use Rattle.array.specs.declared.Verdict.TheVariants.{Accepted}
 use Rattle.paths.specs.Path.{is_open}
 use Rattle.plans.specs.Faults.{faults, fault, directions_at}
 use Rattle.trials.specs.Search.{planned, outcome, directions_written}
@@ -12,11 +11,8 @@ use Rattle.trials.specs.declared.Outcome.TheVariants.{Repaired, Beyond}
 use Rattle.track.specs.Letters.{c, d, across_letters, down_letters}
 use Rattle.track.specs.Ports.{Wafer}
 use Rattle.track.specs.Follower.{refused, followed}
-use Rattle.track.specs.declared.Followed.TheVariants.{Entered}
 use Rattle.readers.specs.Reading.{read_map}
-use Rattle.readers.specs.declared.MapRead.TheVariants.{File, Refused}
 use Rattle.writers.specs.Writing.{write_map}
-use Rattle.writers.specs.declared.FileWritten.TheVariants.{Length}
 use Rattle.starred.specs.Grids.{grid_of, directions_of}
 use Rattle.track.specs.Ports as ports
 
@@ -51,7 +47,7 @@ pub record DeadExamples : Type 0 where
   pub corner : open_paths 3 3 33 ≡ true ∷ false ∷ true ∷ false ∷ []
   pub middle : open_paths 3 3 66 ≡ false ∷ false ∷ false ∷ false ∷ []
   -- mark 3 is allowed at (1, 1) of 2 x 2 and refused at the spare (0, 1)
-  pub inner_allowed : well_formed 2 2 (one_dead 2 2 33) ≡ Accepted
+  pub inner_allowed : well_formed 2 2 (one_dead 2 2 33) ≡ Ok tt
   pub spare_refused : well_formed 2 2 (one_dead 2 2 1) ≡ refuse 3 1 0
   -- 2 x 2: (1, 1) takes south at the first trial, (2, 2) north at the second; (2, 2) of 3 x 3 is beyond repair after four
   pub first_south : outcome 1000000 (planned 2 2 (one_dead 2 2 33)) ≡ Repaired 1
@@ -61,10 +57,10 @@ pub record DeadExamples : Type 0 where
   pub middle_beyond : outcome 1000000 (planned 3 3 (one_dead 3 3 66)) ≡ Beyond 4
   -- a link into a dead processor ends with 17 at the last switch, where one into a fault goes on to the spare (0, 1)
   pub enters_dead : followed (upward 3) 34 1 ≡ refused 17 33
-  pub enters_fault : followed (upward 1) 34 1 ≡ Entered (record { position = 1; port = 3; switches = 3 })
+  pub enters_fault : followed (upward 1) 34 1 ≡ Ok (record { position = 1; port = 3; switches = 3 })
   -- map files: one dead processor, read and written; a count of 0; a spare; a place that both lists have
-  pub one_read : read_map (2 ∷ 2 ∷ 0 ∷ 1 ∷ 1 ∷ 1 ∷ []) zeros ≡ (File (record { rows = 2; columns = 2; count = 1 }), one_dead 2 2 33)
-  pub one_written : write_map 2 2 (one_dead 2 2 33) (9 ∷ 9 ∷ 9 ∷ 9 ∷ 9 ∷ 9 ∷ 9 ∷ []) ≡ (Length 6, 2 ∷ 2 ∷ 0 ∷ 1 ∷ 1 ∷ 1 ∷ 9 ∷ [])
-  pub none_listed : read_map (2 ∷ 2 ∷ 0 ∷ 0 ∷ []) zeros ≡ (Refused (refusal 12 3 0), zeros)
-  pub spare_listed : read_map (2 ∷ 2 ∷ 0 ∷ 1 ∷ 0 ∷ 1 ∷ []) zeros ≡ (Refused (refusal 20 4 0), zeros)
-  pub listed_twice : read_map (2 ∷ 2 ∷ 1 ∷ 1 ∷ 1 ∷ 1 ∷ 1 ∷ 1 ∷ []) zeros ≡ (Refused (refusal 11 6 0), zeros)
+  pub one_read : read_map (2 ∷ 2 ∷ 0 ∷ 1 ∷ 1 ∷ 1 ∷ []) zeros ≡ (Ok (record { rows = 2; columns = 2; count = 1 }), one_dead 2 2 33)
+  pub one_written : write_map 2 2 (one_dead 2 2 33) (9 ∷ 9 ∷ 9 ∷ 9 ∷ 9 ∷ 9 ∷ 9 ∷ []) ≡ (Ok 6, 2 ∷ 2 ∷ 0 ∷ 1 ∷ 1 ∷ 1 ∷ 9 ∷ [])
+  pub none_listed : read_map (2 ∷ 2 ∷ 0 ∷ 0 ∷ []) zeros ≡ (Err (refusal 12 3 0), zeros)
+  pub spare_listed : read_map (2 ∷ 2 ∷ 0 ∷ 1 ∷ 0 ∷ 1 ∷ []) zeros ≡ (Err (refusal 20 4 0), zeros)
+  pub listed_twice : read_map (2 ∷ 2 ∷ 1 ∷ 1 ∷ 1 ∷ 1 ∷ 1 ∷ 1 ∷ []) zeros ≡ (Err (refusal 11 6 0), zeros)

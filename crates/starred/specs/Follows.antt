@@ -1,17 +1,18 @@
 -- Links followed, computed: one that arrives, and each way in which the track can end.
 -- Assumes nothing.
-use Rattle.std.specs.Prelude.{ℕ, ◌≡◌, List, [], ◌∷◌, set}
+use Rattle.std.specs.Prelude.{ℕ, ◌≡◌, List, [], ◌∷◌, set, Ok}
 use Rattle.array.specs.Buffer.{zeros}
 use Rattle.array.specs.Tests.{refuse}
 use Rattle.plans.specs.Faults.{fault}
 use Rattle.plans.specs.declared.Fault.{Fault}
 use Rattle.track.specs.Letters.{a, b, c, d, across_letters, down_letters}
 use Rattle.track.specs.Placement.{placement}
-use Rattle.track.specs.Ports.{Wafer, W, E, N, S, Processor, Across, ◌at◌}
+use Rattle.track.specs.Ports.{Wafer, ◌at◌}
+use Rattle.track.specs.declared.ports.Compass.TheVariants.{W, E, N, S}
+use Rattle.track.specs.declared.ports.Node.TheVariants.{Processor, Across}
 use Rattle.track.specs.Link.{run}
 use Rattle.track.specs.Pieces.{stretch, join, pieces}
 use Rattle.track.specs.Follower.{refused, followed, out_of, seat_of, cell_test, switches_test}
-use Rattle.track.specs.declared.Followed.TheVariants.{Entered}
 use Rattle.starred.specs.Grids.{grid_of, directions_of, shown}
 use Rattle.track.specs.Ports as ports
 
@@ -52,11 +53,11 @@ pub record LetterExamples : Type 0 where
 
 pub record FollowedExamples : Type 0 where
   -- [1, 1], which sits at (2, 1), to the right: to (1, 2), by W, over two switches
-  pub right : followed bench 33 0 ≡ Entered (record { position = 34; port = 0; switches = 2 })
+  pub right : followed bench 33 0 ≡ Ok (record { position = 34; port = 0; switches = 2 })
   -- the same downward: to (3, 1), by N, over one
-  pub lower : followed bench 33 1 ≡ Entered (record { position = 97; port = 2; switches = 1 })
+  pub lower : followed bench 33 1 ≡ Ok (record { position = 97; port = 2; switches = 1 })
   -- past two faults, from (2, 1) to (0, 2), over three
-  pub three : followed upright 33 0 ≡ Entered (record { position = 2; port = 0; switches = 3 })
+  pub three : followed upright 33 0 ≡ Ok (record { position = 2; port = 0; switches = 3 })
   -- the pieces of the first
   pub right_pieces : pieces (out_of (seat_of bench 33) 0) (run bench 7 (out_of (seat_of bench 33) 0))
       ≡ stretch (Processor 2 1 at E) (Across 2 1 at W) ∷ join (Across 2 1) W N
@@ -68,10 +69,10 @@ pub record FollowedExamples : Type 0 where
       ∷ stretch (Across 3 1 at N) (Across 2 1 at S) ∷ join (Across 2 1) S E
       ∷ stretch (Across 2 1 at E) (Processor 2 2 at W) ∷ []
   -- downward past two faults, from (1, 2) to (2, 0), over three; and a right link beside them
-  pub three_down : followed level 33 1 ≡ Entered (record { position = 64; port = 2; switches = 3 })
-  pub right_beside : followed level 65 0 ≡ Entered (record { position = 66; port = 0; switches = 2 })
+  pub three_down : followed level 33 1 ≡ Ok (record { position = 64; port = 2; switches = 3 })
+  pub right_beside : followed level 65 0 ≡ Ok (record { position = 66; port = 0; switches = 2 })
   -- with b at every across switch the first enters another cell's processor
-  pub wrong_cell : followed (with_across bench all_b) 33 0 ≡ Entered (record { position = 66; port = 0; switches = 1 })
+  pub wrong_cell : followed (with_across bench all_b) 33 0 ≡ Ok (record { position = 66; port = 0; switches = 1 })
   -- 17 at the cell's processor: there is no switch beside the spare (2, 1)
   pub no_switch : followed (wafer 1 (33 ∷ []) (fault 33 1 ∷ [])) 33 0 ≡ refused 17 65
   -- 17 at the last switch: the spare (1, 2) is faulty

@@ -1,29 +1,24 @@
 -- Refusals of files, maps and plans, computed.
 -- Assumes nothing.
-use Rattle.std.specs.Prelude.{ℕ, ◌≡◌, List, [], ◌∷◌, set}
+use Rattle.std.specs.Prelude.{ℕ, ◌≡◌, List, [], ◌∷◌, set, Ok, Err}
 use Rattle.array.specs.Tests.{refusal, refuse}
 use Rattle.array.specs.Buffer.{zeros}
 use Rattle.array.specs.Map.{well_formed}
-use Rattle.array.specs.declared.Verdict.{Verdict}
-use Rattle.array.specs.declared.Verdict.TheVariants.{Accepted}
+use Rattle.array.specs.Tests.{Verdict}
 use Rattle.plans.specs.Faults.{fault}
 use Rattle.plans.specs.declared.Fault.{Fault}
 use Rattle.formats.specs.Number.{refused, number_at, bytes_of}
-use Rattle.formats.specs.declared.Number.TheVariants.{Read}
 use Rattle.plans.specs.Check.{check_plan}
 use Rattle.readers.specs.Reading.{read_map, read_plan}
 use Rattle.writers.specs.Writing.{write_map, write_plan}
 use Rattle.starred.specs.Grids.{grid_of, directions_of}
-use Rattle.readers.specs.declared.FileRead.TheVariants as reading
-use Rattle.readers.specs.declared.MapRead.TheVariants as mapping
-use Rattle.writers.specs.declared.FileWritten.TheVariants as writing
 
 -- a reader refuses these bytes so, over a buffer of zeros, which stays
 abbrev pub MapRefused : List ℕ → ℕ → ℕ → Type 0
-MapRefused s k p = read_map s zeros ≡ (mapping.Refused (refusal k p 0), zeros)
+MapRefused s k p = read_map s zeros ≡ (Err (refusal k p 0), zeros)
 
 abbrev pub PlanRefused : List ℕ → ℕ → ℕ → Type 0
-PlanRefused s k p = read_plan s zeros ≡ (reading.Refused (refusal k p 0), zeros)
+PlanRefused s k p = read_plan s zeros ≡ (Err (refusal k p 0), zeros)
 
 -- the directions of one path, from (1, 1) to the south
 abbrev pub south_path : List ℕ
@@ -62,7 +57,7 @@ pub record FileRefusals : Type 0 where
   pub direction_5 : PlanRefused (2 ∷ 2 ∷ 1 ∷ 1 ∷ 1 ∷ 5 ∷ 0 ∷ []) 13 3
   -- direction 0; a buffer that is too short, before the file is looked at
   pub direction_0 : PlanRefused (2 ∷ 2 ∷ 1 ∷ 1 ∷ 1 ∷ 0 ∷ 0 ∷ []) 13 3
-  pub buffer_first : read_map [] [] ≡ (mapping.Refused (refusal 2 0 0), [])
+  pub buffer_first : read_map [] [] ≡ (Err (refusal 2 0 0), [])
   -- T of a plan: none; 80 80 alone; 80 00; a byte after it; direction 5 before it
   pub no_trials : PlanRefused (2 ∷ 2 ∷ 1 ∷ 1 ∷ 1 ∷ 1 ∷ []) 8 6
   pub trials_cut : PlanRefused (2 ∷ 2 ∷ 0 ∷ 128 ∷ 128 ∷ []) 8 5
@@ -70,11 +65,11 @@ pub record FileRefusals : Type 0 where
   pub byte_after_trials : PlanRefused (2 ∷ 2 ∷ 0 ∷ 128 ∷ 1 ∷ 0 ∷ []) 12 5
   pub path_before_trials : PlanRefused (2 ∷ 2 ∷ 1 ∷ 1 ∷ 1 ∷ 5 ∷ 128 ∷ 0 ∷ []) 13 3
   -- a number of two bytes, the lowest of three and the highest, read and written
-  pub two_bytes : number_at (130 ∷ 3 ∷ []) 0 ≡ Read 386 2
+  pub two_bytes : number_at (130 ∷ 3 ∷ []) 0 ≡ Ok (386, 2)
   pub two_written : bytes_of 386 ≡ 130 ∷ 3 ∷ []
-  pub lowest_three : number_at (128 ∷ 128 ∷ 1 ∷ []) 0 ≡ Read 16384 3
+  pub lowest_three : number_at (128 ∷ 128 ∷ 1 ∷ []) 0 ≡ Ok (16384, 3)
   pub lowest_written : bytes_of 16384 ≡ 128 ∷ 128 ∷ 1 ∷ []
-  pub highest_three : number_at (255 ∷ 255 ∷ 127 ∷ []) 0 ≡ Read 2097151 3
+  pub highest_three : number_at (255 ∷ 255 ∷ 127 ∷ []) 0 ≡ Ok (2097151, 3)
   pub highest_written : bytes_of 2097151 ≡ 255 ∷ 255 ∷ 127 ∷ []
   -- 80 80 alone; 80 80 00, from its start; 80 80 80
   pub cut_number : number_at (128 ∷ 128 ∷ []) 0 ≡ refused 8 2
@@ -82,25 +77,25 @@ pub record FileRefusals : Type 0 where
   pub unended_number : number_at (128 ∷ 128 ∷ 128 ∷ []) 0 ≡ refused 9 0
   -- a fault at a spare, read and written
   pub spare_read : read_map (2 ∷ 2 ∷ 1 ∷ 0 ∷ 1 ∷ []) zeros
-      ≡ (mapping.File (record { rows = 2; columns = 2; count = 1 }), grid_of 2 2 (1 ∷ []))
-  pub spare_written : write_map 2 2 (grid_of 2 2 (1 ∷ [])) (9 ∷ 9 ∷ 9 ∷ 9 ∷ 9 ∷ []) ≡ (writing.Length 5, 2 ∷ 2 ∷ 1 ∷ 0 ∷ 1 ∷ [])
+      ≡ (Ok (record { rows = 2; columns = 2; count = 1 }), grid_of 2 2 (1 ∷ []))
+  pub spare_written : write_map 2 2 (grid_of 2 2 (1 ∷ [])) (9 ∷ 9 ∷ 9 ∷ 9 ∷ 9 ∷ []) ≡ (Ok 5, 2 ∷ 2 ∷ 1 ∷ 0 ∷ 1 ∷ [])
   -- 4 of a plan to be written, before 14: direction 5; a direction at a spare. 1, 2 and 4
   -- before 21, 21 before 14. 3 of a map, before 14.
-  pub direction_5_written : write_plan 2 2 (directions_of (fault 33 5 ∷ [])) 0 [] ≡ (writing.Refused (refusal 4 33 0), [])
-  pub spare_directed : write_plan 2 2 (directions_of (fault 1 1 ∷ [])) 0 [] ≡ (writing.Refused (refusal 4 1 0), [])
-  pub size_before_trials : write_plan 31 2 zeros 2097152 [] ≡ (writing.Refused (refusal 1 0 0), [])
-  pub buffer_before_trials : write_plan 2 2 [] 2097152 [] ≡ (writing.Refused (refusal 2 0 0), [])
-  pub direction_before_trials : write_plan 2 2 (directions_of (fault 33 5 ∷ [])) 2097152 [] ≡ (writing.Refused (refusal 4 33 0), [])
-  pub trials_before_room : write_plan 2 2 south_path 2097152 [] ≡ (writing.Refused (refusal 21 0 0), [])
-  pub mark_before_room : write_map 2 2 zeros [] ≡ (writing.Refused (refusal 3 0 0), [])
+  pub direction_5_written : write_plan 2 2 (directions_of (fault 33 5 ∷ [])) 0 [] ≡ (Err (refusal 4 33 0), [])
+  pub spare_directed : write_plan 2 2 (directions_of (fault 1 1 ∷ [])) 0 [] ≡ (Err (refusal 4 1 0), [])
+  pub size_before_trials : write_plan 31 2 zeros 2097152 [] ≡ (Err (refusal 1 0 0), [])
+  pub buffer_before_trials : write_plan 2 2 [] 2097152 [] ≡ (Err (refusal 2 0 0), [])
+  pub direction_before_trials : write_plan 2 2 (directions_of (fault 33 5 ∷ [])) 2097152 [] ≡ (Err (refusal 4 33 0), [])
+  pub trials_before_room : write_plan 2 2 south_path 2097152 [] ≡ (Err (refusal 21 0 0), [])
+  pub mark_before_room : write_map 2 2 zeros [] ≡ (Err (refusal 3 0 0), [])
   -- a plan written, with the bytes after it kept, and read back; file buffers that are one byte too short
   pub plan_written : write_plan 2 2 south_path 2097151 (9 ∷ 9 ∷ 9 ∷ 9 ∷ 9 ∷ 9 ∷ 9 ∷ 9 ∷ 9 ∷ 9 ∷ 9 ∷ [])
-      ≡ (writing.Length 9, 2 ∷ 2 ∷ 1 ∷ 1 ∷ 1 ∷ 1 ∷ 255 ∷ 255 ∷ 127 ∷ 9 ∷ 9 ∷ [])
+      ≡ (Ok 9, 2 ∷ 2 ∷ 1 ∷ 1 ∷ 1 ∷ 1 ∷ 255 ∷ 255 ∷ 127 ∷ 9 ∷ 9 ∷ [])
   pub plan_again : read_plan (write_plan 2 2 south_path 2097151 (9 ∷ 9 ∷ 9 ∷ 9 ∷ 9 ∷ 9 ∷ 9 ∷ 9 ∷ 9 ∷ [])).1 zeros
-      ≡ (reading.File (record { rows = 2; columns = 2; count = 1 }) 2097151, south_path)
+      ≡ (Ok (record { rows = 2; columns = 2; count = 1 }, 2097151), south_path)
   pub trials_too_long : write_plan 2 2 south_path 128 (9 ∷ 9 ∷ 9 ∷ 9 ∷ 9 ∷ 9 ∷ 9 ∷ [])
-      ≡ (writing.Refused (refusal 14 8 0), 9 ∷ 9 ∷ 9 ∷ 9 ∷ 9 ∷ 9 ∷ 9 ∷ [])
-  pub too_short : write_map 2 2 (grid_of 2 2 (33 ∷ [])) (9 ∷ 9 ∷ 9 ∷ 9 ∷ []) ≡ (writing.Refused (refusal 14 5 0), 9 ∷ 9 ∷ 9 ∷ 9 ∷ [])
+      ≡ (Err (refusal 14 8 0), 9 ∷ 9 ∷ 9 ∷ 9 ∷ 9 ∷ 9 ∷ 9 ∷ [])
+  pub too_short : write_map 2 2 (grid_of 2 2 (33 ∷ [])) (9 ∷ 9 ∷ 9 ∷ 9 ∷ []) ≡ (Err (refusal 14 5 0), 9 ∷ 9 ∷ 9 ∷ 9 ∷ [])
 
 -- the check of 2 x 2 and of 3 x 3 with these faults and their directions
 abbrev pub positions_of : List Fault → List ℕ
@@ -115,7 +110,7 @@ check_three fs = check_plan 3 3 (grid_of 3 3 (positions_of fs)) (directions_of f
 
 pub record PlanRefusals : Type 0 where
   -- 30 is accepted, 31 and 0 are not; a size before a length; a buffer of no element; a corner marked healthy; no mark 2 at a processor
-  pub size_30 : well_formed 30 30 (grid_of 30 30 []) ≡ Accepted
+  pub size_30 : well_formed 30 30 (grid_of 30 30 []) ≡ Ok tt
   pub rows_31 : well_formed 31 2 [] ≡ refuse 1 0 0
   pub columns_0 : well_formed 2 0 zeros ≡ refuse 1 0 0
   pub short_buffer : well_formed 2 2 [] ≡ refuse 2 0 0
@@ -128,12 +123,12 @@ pub record PlanRefusals : Type 0 where
   pub direction_above : check_two (fault 33 5 ∷ []) ≡ refuse 4 33 0
   pub healthy_directed : check_plan 2 2 (grid_of 2 2 []) (directions_of (fault 33 1 ∷ [])) ≡ refuse 4 33 0
   -- a plan; near-misses down and across, with either path first; opposite neighbours that run apart; a meeting at (1, 2)
-  pub south_east : check_two (fault 33 1 ∷ fault 66 3 ∷ []) ≡ Accepted
+  pub south_east : check_two (fault 33 1 ∷ fault 66 3 ∷ []) ≡ Ok tt
   pub south_north : check_two (fault 33 1 ∷ fault 66 2 ∷ []) ≡ refuse 7 33 66
   pub east_west : check_two (fault 33 3 ∷ fault 66 4 ∷ []) ≡ refuse 7 33 66
   pub west_east : check_two (fault 34 4 ∷ fault 65 3 ∷ []) ≡ refuse 7 34 65
-  pub north_south : check_two (fault 33 2 ∷ fault 66 1 ∷ []) ≡ Accepted
-  pub east_above_west : check_two (fault 33 3 ∷ fault 65 4 ∷ []) ≡ Accepted
+  pub north_south : check_two (fault 33 2 ∷ fault 66 1 ∷ []) ≡ Ok tt
+  pub east_above_west : check_two (fault 33 3 ∷ fault 65 4 ∷ []) ≡ Ok tt
   pub east_north : check_two (fault 33 3 ∷ fault 66 2 ∷ []) ≡ refuse 6 33 66
   -- south from (1,1) runs over the fault (2,1), which is 5 although the two paths meet as well
   pub closed_first : check_two (fault 33 1 ∷ fault 65 1 ∷ []) ≡ refuse 5 33 0

@@ -1,9 +1,8 @@
 -- Document 01, "Maps to try": the starred maps, one table with a joint result.
 -- Assumes nothing.
-use Rattle.std.specs.Prelude.{ℕ, ◌≡◌, List, [], ◌∷◌}
+use Rattle.std.specs.Prelude.{ℕ, ◌≡◌, List, [], ◌∷◌, Ok}
 use Rattle.array.specs.Place.{position}
 use Rattle.array.specs.Map.{well_formed}
-use Rattle.array.specs.declared.Verdict.TheVariants.{Accepted}
 use Rattle.plans.specs.Faults.{faults, fault}
 use Rattle.plans.specs.declared.Fault.{Fault}
 use Rattle.trials.specs.Search.{planned, outcome, directions_written}
@@ -39,7 +38,7 @@ Stated (l ∷ ls) computed = computed ≡ (l ∷ ls)
 
 -- one row of the table is right: the map is well-formed, the outcome with its count, the whole direction buffer, and the letters for it
 pub record Right (s : Star) : Type 0 where
-  pub formed : well_formed s.rows s.columns (grid s) ≡ Accepted
+  pub formed : well_formed s.rows s.columns (grid s) ≡ Ok tt
   pub outcome_is : outcome s.limit (planned s.rows s.columns (grid s)) ≡ s.result
   pub paths_are : written s ≡ directions_of s.paths
   pub letters_are : Stated s.across (shown (across_letters s.rows s.columns (grid s) (written s)))

@@ -1,5 +1,6 @@
 -- On a routed wafer the placement holds the cells' positions, the switch bytes pass 16 and the follower arrives at every neighbour.
 -- Assumes nothing.
+use Rattle.std.specs.Prelude.{Ok}
 use mathlib.Core.Path.{◌≡◌, refl, ap, ◌∙◌}
 use mathlib.Core.Bool.{Bool, true, false, cond, not, ◌&&◌}
 use mathlib.Core.List.{List}
@@ -17,9 +18,9 @@ use Rattle.array.proofs.Scans.{scan_all, buffer_scan}
 use Rattle.array.proofs.Verdicts.{false_accepted}
 use Rattle.track.specs.Placement.{placed_at, placement}
 use Rattle.track.specs.Letters.{letter, across_exists, down_exists, across_at, down_at, across_letters, down_letters, switch_byte}
-use Rattle.track.specs.Ports.{Wafer, Compass, ◌at◌}
+use Rattle.track.specs.Ports.{Wafer, ◌at◌}
+use Rattle.track.specs.declared.ports.Compass.{Compass}
 use Rattle.track.specs.Follower.{processor_of, switch_test, landing, followed}
-use Rattle.track.specs.declared.Followed.TheVariants.{Entered}
 use Rattle.track.specs.Theorems.{Routed, Cell, holder, Neighbour, Reaches, FollowerArrives, PlacementHolds, SwitchesPass}
 use Rattle.track.proofs.View.{tr}
 use Rattle.track.proofs.Walks.{State, state, state_number}
@@ -89,7 +90,7 @@ switches_pass w a d =
 
 -- the follower tells of a link that reaches a neighbour
 pub followed_neighbour : (w : Wafer) → Routed w → (i j side k l : ℕ) (port : Compass) → Neighbour w i j side k l port
-    → (g : Reaches w i j side k l port) → followed w (position i j) side ≡ Entered (landing g.link (processor_of (holder w k l) at port))
+    → (g : Reaches w i j side k l port) → followed w (position i j) side ≡ Ok (landing g.link (processor_of (holder w k l) at port))
 followed_neighbour w r i j side k l port h g =
     let q = holder w k l in
     let e : position (row q) (column q) ≡ q = omega arith in

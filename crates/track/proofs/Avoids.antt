@@ -15,7 +15,10 @@ use Rattle.array.proofs.Places.{InnerAt, inner_holds, inner_between, position_re
 use Rattle.array.proofs.Marks.{healthy_not_faulty}
 use Rattle.paths.specs.Path.{from_rim}
 use Rattle.paths.proofs.Directions.{by_number}
-use Rattle.track.specs.Ports.{Wafer, Compass, W, N, Processor}
+use Rattle.track.specs.Ports.{Wafer}
+use Rattle.track.specs.declared.ports.Compass.{Compass}
+use Rattle.track.specs.declared.ports.Compass.TheVariants.{W, N}
+use Rattle.track.specs.declared.ports.Node.TheVariants.{Processor}
 use Rattle.track.specs.Follower.{position_of, processor_of}
 use Rattle.track.specs.Theorems.{Routed, holder, Neighbour, right, lower}
 use Rattle.track.specs.Avoids.{Visits, RimFault}

@@ -1,10 +1,10 @@
 -- The switches and processors of a routed wafer hold what a walk of its view meets, as if nothing were broken: along rows
 -- and, with the view transposed, along columns.
 -- Assumes nothing.
+use Rattle.std.specs.Prelude.{Option, None, Some}
 use mathlib.Core.Path.{◌≡◌, refl, sym, ap, ◌∙◌}
 use mathlib.Core.Bool.{Bool, true, false, false≢true, true≢false}
 use mathlib.Core.List.{List}
-use mathlib.Core.Option.{Option, none, some}
 use Prim.Native.Nat.{ℕ, suc, ◌+◌, ◌≤◌}
 use native.Mathlib.Omega.{arith}
 use native.Mathlib.Numerals.{add-one}
@@ -23,7 +23,11 @@ use Rattle.plans.specs.declared.Fault.{Fault}
 use Rattle.plans.proofs.ByPosition.{buffer_plan}
 use Rattle.track.specs.Placement.{through}
 use Rattle.track.specs.Letters.{letter, across_exists, down_exists, across_at, down_at, across_letters, down_letters}
-use Rattle.track.specs.Ports.{Wafer, Compass, W, E, N, S, Processor, Across, Down, Port, ◌at◌, stands, N–S, W–E, unjoined as unjoined-All, across_joins, down_joins, fault_joins, ends_link, set_to, joined}
+use Rattle.track.specs.Ports.{Wafer, ◌at◌, stands, N–S, W–E, unjoined as unjoined-All, across_joins, down_joins, fault_joins, ends_link, set_to, joined}
+use Rattle.track.specs.declared.ports.Compass.{Compass}
+use Rattle.track.specs.declared.ports.Compass.TheVariants.{W, E, N, S}
+use Rattle.track.specs.declared.ports.Node.TheVariants.{Processor, Across, Down}
+use Rattle.track.specs.declared.ports.Port.{Port}
 use Rattle.track.specs.Theorems.{Routed}
 use Rattle.track.proofs.OneLink.{sound}
 use Rattle.track.proofs.View.{Dir, still, south, north, east, west, tr, moving, View, transposed, Planned}
@@ -64,13 +68,13 @@ letter_is s t =
 
 -- joins
 abbrev as_option : Joined → Option Compass
-as_option (to q) = some q
-as_option unjoined = none
-as_option missing = none
+as_option (to q) = Some q
+as_option unjoined = None
+as_option missing = None
 
 kept : (o : Option Compass) → o ≡ as_option (as_joined o)
-kept none = refl
-kept (some q) = refl
+kept None = refl
+kept (Some q) = refl
 
 across_joins_is : (l : Letter) (p : Compass) → across_joins (code l) p ≡ as_option (join l p)
 across_joins_is sa p = kept (across_joins letters.a p)
@@ -80,9 +84,9 @@ across_joins_is sd p = kept (across_joins letters.d p)
 across_joins_is no_switch p = refl
 
 abbrev as_turned : Joined → Option Compass
-as_turned (to q) = some (turned q)
-as_turned unjoined = none
-as_turned missing = none
+as_turned (to q) = Some (turned q)
+as_turned unjoined = None
+as_turned missing = None
 
 down_joins_is : (l : Letter) (p : Compass) → down_joins (code l) (turned p) ≡ as_turned (join l p)
 down_joins_is sa W = refl
@@ -126,14 +130,14 @@ level north = false
 level east = true
 level west = true
 
-level_joins : (d : Dir) → T (level d) → T (moving d) × (joins_of d W ≡ some E) × (joins_of d E ≡ some W)
+level_joins : (d : Dir) → T (level d) → T (moving d) × (joins_of d W ≡ Some E) × (joins_of d E ≡ Some W)
 level_joins still t = absurd t
 level_joins south t = absurd t
 level_joins north t = absurd t
 level_joins east t = (tt, refl, refl)
 level_joins west t = (tt, refl, refl)
 
-turned_joins : (d : Dir) → T (level (tr d)) → T (moving d) × (joins_of d N ≡ some S) × (joins_of d S ≡ some N)
+turned_joins : (d : Dir) → T (level (tr d)) → T (moving d) × (joins_of d N ≡ Some S) × (joins_of d S ≡ Some N)
 turned_joins still t = absurd t
 turned_joins south t = (tt, refl, refl)
 turned_joins north t = (tt, refl, refl)
@@ -175,7 +179,7 @@ inside_ends : (w : Wafer) (i : Port) → ends_link w i.node ≡ true → link.in
 unfolding link.inside
 inside_ends w i e = rw (e, link.inside)
 
-inside_on : (w : Wafer) (i : Port) (q : Compass) → ends_link w i.node ≡ false → joined w i.node i.side ≡ some q
+inside_on : (w : Wafer) (i : Port) (q : Compass) → ends_link w i.node ≡ false → joined w i.node i.side ≡ Some q
     → link.inside w i ≡ link.on (i.node at q)
 unfolding link.inside
 inside_on w i q e f = rw (e, f, link.inside)
@@ -237,7 +241,7 @@ module _ (w : Wafer) (r : Routed w) where
 
   -- a fault on a path joins the ports that its own direction says
   fault_inside : (x y : ℕ) (d : Dir) (s q : Compass) → T (moving d) → faulty w.grid (position x y) ≡ true → (view_of w).path x y ≡ d
-      → joins_of d s ≡ some q → link.inside (sound w) (Processor x y at s) ≡ link.on (Processor x y at q)
+      → joins_of d s ≡ Some q → link.inside (sound w) (Processor x y at s) ≡ link.on (Processor x y at q)
   unfolding ends_link joined set_to
   fault_inside x y d s q m h e g =
       let o = own_direction (view_of w) planned_of d x y m (rw h tt) e in
@@ -282,7 +286,7 @@ module _ (w : Wafer) (r : Routed w) where
         run_E = λ x y e. run x y E W e (λ d t. (level_joins d t).2);
       }
     where
-      run : (x y : ℕ) (s q : Compass) → inside (view_of w) x y ≡ runs → ((d : Dir) → T (level d) → joins_of d s ≡ some q)
+      run : (x y : ℕ) (s q : Compass) → inside (view_of w) x y ≡ runs → ((d : Dir) → T (level d) → joins_of d s ≡ Some q)
           → link.inside (sound w) (Processor x y at s) ≡ link.on (Processor x y at q)
       run x y s q e f =
           let d = (view_of w).path x y in
@@ -302,7 +306,7 @@ module _ (w : Wafer) (r : Routed w) where
         run_E = λ x y e. run x y S N e (λ d t. (turned_joins d t).2);
       }
     where
-      run : (x y : ℕ) (s q : Compass) → inside (transposed (view_of w)) x y ≡ runs → ((d : Dir) → T (level (tr d)) → joins_of d s ≡ some q)
+      run : (x y : ℕ) (s q : Compass) → inside (transposed (view_of w)) x y ≡ runs → ((d : Dir) → T (level (tr d)) → joins_of d s ≡ Some q)
           → link.inside (sound w) (Processor y x at s) ≡ link.on (Processor y x at q)
       run x y s q e f =
           let d = (view_of w).path y x in

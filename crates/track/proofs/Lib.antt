@@ -8,7 +8,6 @@ pub mod Links
 pub mod Paths
 pub mod FromPlan
 pub mod OnPath
-pub mod Ranges
 pub mod Through
 pub mod Seen
 pub mod Trails

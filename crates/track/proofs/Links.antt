@@ -8,7 +8,7 @@ use mathlib.Core.Bool.{Bool}
 use mathlib.Core.List.{List, [], ◌∷◌}
 use lib.Dec.{T, lit≤}
 use Rattle.track.proofs.View.{Dir, still, south, north, east, west, View}
-use Rattle.track.specs.Ports.{W, E}
+use Rattle.track.specs.declared.ports.Compass.TheVariants.{W, E}
 use Rattle.track.proofs.Walks.{State, v0, v1, v2, v3, v4, sb, Letter, vertical, horizontal, across, Inside, ends, runs, inside, placed, Run, switch, fault, enters, unjoined_at, lost, too_long, last, walk, switches, link, Place}
 use Rattle.track.proofs.Cross.{above, is, Rel, top, mid, bot, rel, row, leads}
 use Rattle.track.proofs.Runs.{is_eq, run, with_run, runs_on}

@@ -1,11 +1,15 @@
 -- There is one link from a port, and it does not depend on what is joined at nodes that it does not enter.
 -- Assumes nothing.
+use Rattle.std.specs.Prelude.{None}
 use mathlib.Core.Path.{◌≡◌, refl, ap, subst, ◌∙◌}
 use mathlib.Core.Bool.{Bool, true, false, cond, true≢false}
 use mathlib.Core.Logic.{inl, inr}
-use mathlib.Core.Option.{none}
 use Rattle.array.proofs.Bools.{by_bool}
-use Rattle.track.specs.Ports.{Wafer, Compass, Node, Processor, Across, Down, Port, ◌at◌, stretch_from, ends_link, set_to, joined}
+use Rattle.track.specs.Ports.{Wafer, ◌at◌, stretch_from, ends_link, set_to, joined}
+use Rattle.track.specs.declared.ports.Compass.{Compass}
+use Rattle.track.specs.declared.ports.Node.{Node}
+use Rattle.track.specs.declared.ports.Node.TheVariants.{Processor, Across, Down}
+use Rattle.track.specs.declared.ports.Port.{Port}
 use Rattle.track.specs.Link.{Trail, enters, Inside, ends, joined_to, inside, Link, last, next}
 use Rattle.track.specs.Avoids.{Visits, SameElsewhere}
 
@@ -39,7 +43,7 @@ same_elsewhere w w' o t (next {i = i} {q = q} {t = r} e f l) s =
     (same_elsewhere w w' q r l (record { stretches = s.stretches; held = λ j v. s.held j (inr v) }))
 
 abbrev held : Wafer → Node → Compass → Bool → Inside
-held w v s b = elim (ends_link w v) [ true ↦ ends | false ↦ joined_to v (cond b none (set_to w v s)) ]
+held w v s b = elim (ends_link w v) [ true ↦ ends | false ↦ joined_to v (cond b None (set_to w v s)) ]
 
 -- at a node that is not broken the same is inside as if nothing were broken
 inside_same : (w : Wafer) (v : Node) (s : Compass) → w.broken v ≡ false → inside w (v at s) ≡ inside (sound w) (v at s)

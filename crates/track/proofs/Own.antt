@@ -6,7 +6,8 @@ use mathlib.Core.List.{List, [], ◌∷◌}
 use mathlib.Core.Bool.{Bool, true, false}
 use lib.Dec.{T}
 use Rattle.track.proofs.View.{Dir, still, south, north, east, west, View}
-use Rattle.track.specs.Ports.{Compass, W, E, N, S}
+use Rattle.track.specs.declared.ports.Compass.{Compass}
+use Rattle.track.specs.declared.ports.Compass.TheVariants.{W, E, N, S}
 use Rattle.track.proofs.Walks.{State, v0, v1, v2, v3, v4, Letter, sa, sb, sc, sd, no_switch, Run, switch, fault, enters, unjoined_at, lost, too_long, Place, before, vertical, across, placed, link}
 use Rattle.track.proofs.Cross.{Rel, top, mid, bot, row, leads}
 use Rattle.track.proofs.Runs.{is_eq₂, is_eq₃, run}

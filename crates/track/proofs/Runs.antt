@@ -4,7 +4,7 @@ use Prim.Native.Nat.{ℕ, suc}
 use mathlib.Core.Path.{◌≡◌, refl, sym, ap, ◌∙◌}
 use mathlib.Core.Bool.{◌&&◌}
 use lib.Dec.{T, eqb→eq}
-use Rattle.track.specs.Ports.{W, E, N, S}
+use Rattle.track.specs.declared.ports.Compass.TheVariants.{W, E, N, S}
 use Rattle.track.proofs.Walks.{Letter, sa, sb, sc, sd, no_switch, code, decode, Inside, Run, switch, walk, enter_W}
 use Rattle.track.proofs.Cross.{Rel, top, mid, bot, row, leads, is, and_left, and_right}
 

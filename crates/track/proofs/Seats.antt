@@ -13,7 +13,9 @@ use Rattle.array.proofs.Places.{stands_between, inner_between, processor_within,
 use Rattle.array.proofs.Marks.{healthy_else}
 use Rattle.paths.specs.Path.{ahead}
 use Rattle.paths.proofs.Directions.{by_number}
-use Rattle.track.specs.Ports.{Wafer, Compass, Processor}
+use Rattle.track.specs.Ports.{Wafer}
+use Rattle.track.specs.declared.ports.Compass.{Compass}
+use Rattle.track.specs.declared.ports.Node.TheVariants.{Processor}
 use Rattle.track.specs.Follower.{processor_of}
 use Rattle.track.specs.Theorems.{Routed, Cell, holder, Neighbour, right, lower, CellsSit, CellsAlone}
 use Rattle.track.proofs.View.{Dir, still, south, north, east, west, tr, View, transposed, Planned}

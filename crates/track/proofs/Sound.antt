@@ -9,7 +9,12 @@ use mathlib.Core.Logic.{◌⊎◌, inl, inr, ⊎_elim}
 use Prim.Native.Nat.{ℕ, zero, suc, ◌≤◌}
 use native.Mathlib.Omega.{arith}
 use native.Mathlib.Numerals.{add-one}
-use Rattle.track.specs.Ports.{Wafer, Compass, W, E, N, S, Node, Processor, Across, Down, Port, ◌at◌}
+use Rattle.track.specs.Ports.{Wafer, ◌at◌}
+use Rattle.track.specs.declared.ports.Compass.{Compass}
+use Rattle.track.specs.declared.ports.Compass.TheVariants.{W, E, N, S}
+use Rattle.track.specs.declared.ports.Node.{Node}
+use Rattle.track.specs.declared.ports.Node.TheVariants.{Processor, Across, Down}
+use Rattle.track.specs.declared.ports.Port.{Port}
 use Rattle.track.specs.Link.{Enters}
 use Rattle.track.specs.Pieces.{Piece, Same}
 use Rattle.track.specs.Follower.{processor_of}

@@ -13,7 +13,10 @@ use Rattle.array.proofs.Bools.{and_both}
 use Rattle.array.proofs.Marks.{faulty_below, dead_faulty, dead_inner}
 use Rattle.paths.proofs.Opens.{open_from_rim}
 use Rattle.plans.proofs.ByPosition.{buffer_plan}
-use Rattle.track.specs.Ports.{Wafer, Compass, Node, Processor, Across, Down}
+use Rattle.track.specs.Ports.{Wafer}
+use Rattle.track.specs.declared.ports.Compass.{Compass}
+use Rattle.track.specs.declared.ports.Node.{Node}
+use Rattle.track.specs.declared.ports.Node.TheVariants.{Processor, Across, Down}
 use Rattle.track.specs.Link.{Trail, Link}
 use Rattle.track.specs.Pieces.{Piece}
 use Rattle.track.specs.Theorems.{Routed, out, Neighbour, LinksReach, NeighbourLink, pieces_of, NoPieceShared}

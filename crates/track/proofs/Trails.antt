@@ -1,12 +1,17 @@
 -- A walk from switch to switch that arrives is a link of the track, once for both axes: a walk's switch and processor (x, y) are the nodes
 -- `sw x y` and `pr x y`, and its port p is their port `tp p`.
 -- Assumes nothing.
+use Rattle.std.specs.Prelude.{Option, Some}
 use Prim.Native.Nat.{ℕ, zero, suc}
 use mathlib.Core.Path.{◌≡◌, refl, ap}
 use mathlib.Core.Bool.{Bool, true, false, true≢false}
-use mathlib.Core.Option.{Option, some}
 use lib.Dec.{T}
-use Rattle.track.specs.Ports.{Wafer, Compass, W, E, N, S, Node, Processor, Across, Down, Port, ◌at◌, neighbour, stands, stretch_from}
+use Rattle.track.specs.Ports.{Wafer, ◌at◌, neighbour, stands, stretch_from}
+use Rattle.track.specs.declared.ports.Compass.{Compass}
+use Rattle.track.specs.declared.ports.Compass.TheVariants.{W, E, N, S}
+use Rattle.track.specs.declared.ports.Node.{Node}
+use Rattle.track.specs.declared.ports.Node.TheVariants.{Processor, Across, Down}
+use Rattle.track.specs.declared.ports.Port.{Port}
 use Rattle.track.specs.Link.{Trail, Link, Enters}
 use Rattle.track.proofs.Walks.{Letter, sa, sb, sc, sd, no_switch, Joined, to, unjoined, missing, join, Inside, ends, runs, stuck, Run, switch, fault, enters, unjoined_at, lost, too_long, last, switches, enter_W, enter_E, north_of, pass, one_more, walk}
 use Rattle.track.specs.Link as link
@@ -32,12 +37,12 @@ up w v = stands w.rows w.columns v
 
 -- one axis of the track
 pub record Axis (sw pr : ℕ → ℕ → Node) (tp : Compass → Compass) : Type 0 where
-  pub down_on : (x y : ℕ) → neighbour (sw x y) (tp S) ≡ some (sw (suc x) y at tp N)
-  pub up_on : (x y : ℕ) → neighbour (sw (suc x) y) (tp N) ≡ some (sw x y at tp S)
-  pub in_west : (x y : ℕ) → neighbour (sw x y) (tp E) ≡ some (pr x (suc y) at tp W)
-  pub in_east : (x y : ℕ) → neighbour (sw x y) (tp W) ≡ some (pr x y at tp E)
-  pub out_east : (x y : ℕ) → neighbour (pr x y) (tp E) ≡ some (sw x y at tp W)
-  pub out_west : (x y : ℕ) → neighbour (pr x (suc y)) (tp W) ≡ some (sw x y at tp E)
+  pub down_on : (x y : ℕ) → neighbour (sw x y) (tp S) ≡ Some (sw (suc x) y at tp N)
+  pub up_on : (x y : ℕ) → neighbour (sw (suc x) y) (tp N) ≡ Some (sw x y at tp S)
+  pub in_west : (x y : ℕ) → neighbour (sw x y) (tp E) ≡ Some (pr x (suc y) at tp W)
+  pub in_east : (x y : ℕ) → neighbour (sw x y) (tp W) ≡ Some (pr x y at tp E)
+  pub out_east : (x y : ℕ) → neighbour (pr x y) (tp E) ≡ Some (sw x y at tp W)
+  pub out_west : (x y : ℕ) → neighbour (pr x (suc y)) (tp W) ≡ Some (sw x y at tp E)
   pub switch_is : (x y : ℕ) → link.is_switch (sw x y) ≡ true
   pub processor_is : (x y : ℕ) → link.is_switch (pr x y) ≡ false
 
@@ -103,7 +108,7 @@ pub record Alike (w : Wafer) (sw pr : ℕ → ℕ → Node) (tp : Compass → Co
   pub run_W : (x y : ℕ) → I x y ≡ runs → link.inside w (pr x y at tp W) ≡ link.on (pr x y at tp E)
   pub run_E : (x y : ℕ) → I x y ≡ runs → link.inside w (pr x y at tp E) ≡ link.on (pr x y at tp W)
 
-stretch_to : (w : Wafer) (o i : Port) → met o ≡ some i → up w i.node ≡ true → stretch_from w o ≡ some i
+stretch_to : (w : Wafer) (o i : Port) → met o ≡ Some i → up w i.node ≡ true → stretch_from w o ≡ Some i
 unfolding stretch_from
 stretch_to w o i e h = rw (e, h)
 
@@ -116,7 +121,7 @@ module _
 
     -- how the rest of a run, of at most n switches, is known to be a link
     abbrev Rest : ℕ → Type 0
-    Rest n = (x y : ℕ) (p : Compass) (o : Port) → met o ≡ some (sw x y at tp p)
+    Rest n = (x y : ℕ) (p : Compass) (o : Port) → met o ≡ Some (sw x y at tp p)
         → T (arrives (walk L I n x y p)) → Link w o (tr (walk L I n x y p))
 
     north_link : (n : ℕ) → Rest n → (x y : ℕ) → T (arrives (north_of (walk L I n) x y))
@@ -143,7 +148,7 @@ module _
         link.next (stretch_to w _ _ (ax.in_east x (suc y)) h) (al.run_E x (suc y) f)
         (ih x y E (pr x (suc y) at tp W) (ax.out_west x y) t)
 
-    passed : (n : ℕ) → Rest n → (x y : ℕ) (p : Compass) (o : Port) → met o ≡ some (sw x y at tp p)
+    passed : (n : ℕ) → Rest n → (x y : ℕ) (p : Compass) (o : Port) → met o ≡ Some (sw x y at tp p)
         → (j : Joined) → join (L x y) p ≡ j → T (arrives (pass (walk L I n) (I x y) (I x (suc y)) x y p j))
         → Link w o (tr (pass (walk L I n) (I x y) (I x (suc y)) x y p j))
     passed n ih x y p o e missing f t = absurd t

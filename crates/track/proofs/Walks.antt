@@ -1,11 +1,13 @@
 -- Placement, routing states, letters and joins in the view by row and column, and the link of a cell as a walk from switch to switch.
 -- Written for links that leave by the east port; a south link is the east link of the transposed view. Definitions for the proofs.
 -- Assumes nothing.
+use Rattle.std.specs.Prelude.{Option, None, Some}
 use Prim.Native.Nat.{ℕ, zero, suc}
 use mathlib.Core.Bool.{Bool, true, false}
-use mathlib.Core.Option.{Option, none, some}
 use Rattle.track.specs.Letters.{a, b, c, d, letter, across_exists}
-use Rattle.track.specs.Ports.{Compass, W, E, N, S, by_letter, across_joins}
+use Rattle.track.specs.Ports.{by_letter, across_joins}
+use Rattle.track.specs.declared.ports.Compass.{Compass}
+use Rattle.track.specs.declared.ports.Compass.TheVariants.{W, E, N, S}
 use Rattle.track.proofs.View.{Dir, still, south, north, east, west, tr, View}
 
 pub data State : Type 0 where
@@ -63,8 +65,8 @@ pub data Joined : Type 0 where
   missing : Joined
 
 abbrev pub as_joined : Option Compass → Joined
-as_joined none = unjoined
-as_joined (some q) = to q
+as_joined None = unjoined
+as_joined (Some q) = to q
 
 -- the port that a letter joins to a port
 abbrev pub join : Letter → Compass → Joined

@@ -4,7 +4,10 @@ use Rattle.std.specs.Prelude.{ℕ, ◌≡◌, true, false, ◌⊎◌, get_or}
 use Rattle.array.specs.Place.{position}
 use Rattle.array.specs.Map.{inner_fault}
 use Rattle.paths.specs.Path.{from_rim}
-use Rattle.track.specs.Ports.{Wafer, Node, Processor, Port, stretch_from}
+use Rattle.track.specs.Ports.{Wafer, stretch_from}
+use Rattle.track.specs.declared.ports.Node.{Node}
+use Rattle.track.specs.declared.ports.Node.TheVariants.{Processor}
+use Rattle.track.specs.declared.ports.Port.{Port}
 use Rattle.track.specs.Link.{Trail, passes, enters, unjoined_at, no_stretch, unfinished, inside, Link}
 use Rattle.track.specs.Follower.{processor_of}
 use Rattle.track.specs.Theorems.{Routed, NeighbourLink}

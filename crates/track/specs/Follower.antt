@@ -1,23 +1,30 @@
 -- Document 01, "Placement and routing" and "Numbers returned": the follower's answer, with 15 to 18.
 -- Assumes nothing.
-use Rattle.std.specs.Prelude.{ℕ, suc, ◌≤◌, ◌+◌, ◌≡◌, false, cond, not, ◌&&◌, List, [], ◌∷◌, ltb, eqb, get_or}
+use Rattle.std.specs.Prelude.{ℕ, suc, ◌≤◌, ◌+◌, ◌≡◌, false, cond, not, ◌&&◌, List, [], ◌∷◌, ltb, eqb, get_or, Result, Ok, Err}
 use Rattle.array.specs.Place.{position, row, column, inner}
-use Rattle.array.specs.Tests.{Told, accepts, refuses_as, refusal, refuse_if, first_in}
+use Rattle.array.specs.Tests.{Verdict, Told, accepts, refuses_as, refusal, refuse_if, first_in}
 use Rattle.array.specs.Map.{faulty}
-use Rattle.array.specs.declared.Verdict.{Verdict}
+use Rattle.array.specs.declared.Refusal.{Refusal}
 use Rattle.plans.specs.Faults.{directed_faults}
 use Rattle.track.specs.Placement.{seat}
 use Rattle.track.specs.Letters.{across_exists, down_exists, switch_byte}
-use Rattle.track.specs.Ports.{Wafer, Compass, W, E, N, S, Node, Processor, Across, Down, Port, ◌at◌}
+use Rattle.track.specs.Ports.{Wafer, ◌at◌}
+use Rattle.track.specs.declared.ports.Compass.{Compass}
+use Rattle.track.specs.declared.ports.Compass.TheVariants.{W, E, N, S}
+use Rattle.track.specs.declared.ports.Node.{Node}
+use Rattle.track.specs.declared.ports.Node.TheVariants.{Processor, Across, Down}
+use Rattle.track.specs.declared.ports.Port.{Port}
 use Rattle.track.specs.Link.{Trail, passes, enters, unjoined_at, no_stretch, unfinished, is_switch, run, Link, Enters, switches}
 use Rattle.track.specs.declared.Landing.{Landing}
-use Rattle.track.specs.declared.Followed.{Followed}
-use Rattle.track.specs.declared.Followed.TheVariants.{Entered, Refused}
+
+-- what the follower answers
+abbrev pub Followed : Type 0
+Followed = Result Landing Refusal
 
 -- the three values of a link that arrives, or the refusal
 abbrev pub told : Followed → Told
-told (Entered l) = accepts (l.position ∷ l.port ∷ l.switches ∷ [])
-told (Refused r) = refuses_as r
+told (Ok l) = accepts (l.position ∷ l.port ∷ l.switches ∷ [])
+told (Err r) = refuses_as r
 
 abbrev pub port_number : Compass → ℕ
 port_number W = 0
@@ -46,7 +53,7 @@ abbrev pub seat_of : Wafer → ℕ → ℕ
 seat_of w cell = seat w.rows w.columns (directed_faults w.rows w.columns w.grid w.directions) cell
 
 abbrev pub refused : ℕ → ℕ → Followed
-refused k p = Refused (refusal k p 0)
+refused k p = Err (refusal k p 0)
 
 -- 18 at p, the switch ahead, where it would be the fourth: k are passed
 abbrev pub unless_fourth : ℕ → ℕ → Followed → Followed
@@ -62,7 +69,7 @@ judged grid c k (unjoined_at i) =
     cond (is_switch i.node) (unless_fourth k (position_of i.node) (refused 17 (position_of i.node))) (refused 17 c)
 judged grid c k (enters i) =
     cond (faulty grid (position_of i.node)) (refused 17 c)
-    (Entered (record { position = position_of i.node; port = port_number i.side; switches = k }))
+    (Ok (record { position = position_of i.node; port = port_number i.side; switches = k }))
 judged grid c k no_stretch = refused 17 c
 judged grid c k unfinished = refused 0 0
 
@@ -94,8 +101,8 @@ pub record LinkOf (w : Wafer) (cell side : ℕ) (l : Landing) : Type 0 where
 -- On any wafer the follower tells of the link: it enters where the link does and nowhere else, and there is one link. What it refuses is in
 -- `Refusals`.
 pub record FollowerOwn : Type 0 where
-  pub answered : (w : Wafer) (cell side : ℕ) (l : Landing) → followed w cell side ≡ Entered l → LinkOf w cell side l
-  pub answers : (w : Wafer) (cell side : ℕ) (l : Landing) → LinkOf w cell side l → followed w cell side ≡ Entered l
+  pub answered : (w : Wafer) (cell side : ℕ) (l : Landing) → followed w cell side ≡ Ok l → LinkOf w cell side l
+  pub answers : (w : Wafer) (cell side : ℕ) (l : Landing) → LinkOf w cell side l → followed w cell side ≡ Ok l
   pub one_link : (w : Wafer) (o : Port) (t t' : Trail) → Link w o t → Link w o t' → t ≡ t'
   pub enough : Enough
 

@@ -1,8 +1,11 @@
 -- Document 01, "Placement and routing": a link, from the port it leaves by, from stretch to join to stretch, into the first processor that
 -- ends it (`ends_link`). One definition serves both sides. Assumes nothing.
-use Rattle.std.specs.Prelude.{ℕ, zero, suc, ◌≡◌, Bool, true, false}
-use Rattle.std.proofs.Math.Option.{Option, none, some}
-use Rattle.track.specs.Ports.{Wafer, Compass, Node, Processor, Across, Down, Port, ◌at◌, stretch_from, ends_link, joined}
+use Rattle.std.specs.Prelude.{ℕ, zero, suc, ◌≡◌, Bool, true, false, Option, None, Some}
+use Rattle.track.specs.Ports.{Wafer, ◌at◌, stretch_from, ends_link, joined}
+use Rattle.track.specs.declared.ports.Compass.{Compass}
+use Rattle.track.specs.declared.ports.Node.{Node}
+use Rattle.track.specs.declared.ports.Node.TheVariants.{Processor, Across, Down}
+use Rattle.track.specs.declared.ports.Port.{Port}
 
 -- What a run comes to: a switch or fault that it passes, from the port entered by to the port joined to it, and so on; or a processor
 -- that ends it. It fails at a port that is joined to nothing, or where no stretch leads on.
@@ -21,24 +24,24 @@ pub data Inside : Type 0 where
   stops : Inside
 
 abbrev pub joined_to : Node → Option Compass → Inside
-joined_to v none = stops
-joined_to v (some q) = on (v at q)
+joined_to v None = stops
+joined_to v (Some q) = on (v at q)
 
 unfoldable pub inside : Wafer → Port → Inside
 inside w i = elim (ends_link w i.node) [ true ↦ ends | false ↦ joined_to i.node (joined w i.node i.side) ]
 
 -- t is the link that leaves by the port o, whatever its length
 pub data Link (w : Wafer) : Port → Trail → Type 0 where
-  last : {o i : Port} → stretch_from w o ≡ some i → inside w i ≡ ends → Link w o (enters i)
-  next : {o i q : Port} {t : Trail} → stretch_from w o ≡ some i → inside w i ≡ on q → Link w q t → Link w o (passes i q t)
+  last : {o i : Port} → stretch_from w o ≡ Some i → inside w i ≡ ends → Link w o (enters i)
+  next : {o i q : Port} {t : Trail} → stretch_from w o ≡ Some i → inside w i ≡ on q → Link w q t → Link w o (passes i q t)
 
 -- the same computed, from the port o into at most k nodes
 unfoldable pub run : Wafer → ℕ → Port → Trail
 run w zero o = unfinished
 run w (suc k) o =
     elim (stretch_from w o) [
-      | none ↦ no_stretch
-      | some i ↦ elim (inside w i) [ ends ↦ enters i | on q ↦ passes i q (run w k q) | stops ↦ unjoined_at i ]
+      | None ↦ no_stretch
+      | Some i ↦ elim (inside w i) [ ends ↦ enters i | on q ↦ passes i q (run w k q) | stops ↦ unjoined_at i ]
     ]
 
 abbrev pub is_switch : Node → Bool

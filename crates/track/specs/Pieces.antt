@@ -1,7 +1,9 @@
 -- Document 01, "Placement and routing": the pieces of track of a link.
 -- Assumes nothing.
 use Rattle.std.specs.Prelude.{◌≡◌, ◌⊎◌, List, [], ◌∷◌}
-use Rattle.track.specs.Ports.{Compass, Node, Port}
+use Rattle.track.specs.declared.ports.Compass.{Compass}
+use Rattle.track.specs.declared.ports.Node.{Node}
+use Rattle.track.specs.declared.ports.Port.{Port}
 use Rattle.track.specs.Link.{Trail, passes, enters, unjoined_at, no_stretch, unfinished}
 
 -- a piece of track: a stretch, known by the two neighbouring ports that it lies between, or a join, known by where it

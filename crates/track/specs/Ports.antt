@@ -1,18 +1,15 @@
 -- Document 01, "Placement and routing": the track. Processors and switches have ports W, E, N, S; a stretch leads from port to
 -- neighbouring port; letters and converted faults join ports. Both axes at once. Assumes nothing.
-use Rattle.std.specs.Prelude.{ℕ, zero, suc, Bool, false, cond, not, List, eqb, get_or}
-use Rattle.std.proofs.Math.Option.{Option, none, some}
+use Rattle.std.specs.Prelude.{ℕ, zero, suc, Bool, false, cond, not, List, Option, Some, None, eqb, get_or}
 use Rattle.array.specs.Place.{position, processor_at}
 use Rattle.array.specs.Map.{dead, inner_fault}
 use Rattle.paths.specs.Path.{by_direction}
 use Rattle.track.specs.Letters.{across_exists, down_exists, a, b, c, d}
-
-pub data Compass : Type 0 where
-  W E N S : Compass
-
--- by row and column; a switch by those it is filed under
-pub data Node : Type 0 where
-  Processor Across Down : ℕ → ℕ → Node
+use Rattle.track.specs.declared.ports.Compass.{Compass}
+use Rattle.track.specs.declared.ports.Compass.TheVariants.{W, E, N, S}
+use Rattle.track.specs.declared.ports.Node.{Node}
+use Rattle.track.specs.declared.ports.Node.TheVariants.{Processor, Across, Down}
+use Rattle.track.specs.declared.ports.Port.{Port}
 
 -- a wafer with its paths and its switches set: what a link runs through; the nodes that are broken join none of their
 -- ports, whatever is set (T-04: the dead processors)
@@ -43,10 +40,6 @@ wafer n m grid directions across down =
       broken = dead_node grid;
     }
 
-pub record Port : Type 0 where
-  pub node : Node
-  pub side : Compass
-
 infix 60 ◌at◌
 abbrev pub ◌at◌ : Node → Compass → Port
 v at s = record { node = v; side = s }
@@ -57,22 +50,22 @@ v at s = record { node = v; side = s }
 --   Across (x,y) S - N Across (x+1,y)                             an across switch and the one below it in its channel
 --   Down (x,y) E - W Down (x,y+1)                                 the same, transposed
 unfoldable pub neighbour : Node → Compass → Option Port
-neighbour (Processor x y) E = some (Across x y at W)
-neighbour (Processor x y) S = some (Down x y at N)
-neighbour (Processor x zero) W = none
-neighbour (Processor x (suc y)) W = some (Across x y at E)
-neighbour (Processor zero y) N = none
-neighbour (Processor (suc x) y) N = some (Down x y at S)
-neighbour (Across x y) W = some (Processor x y at E)
-neighbour (Across x y) E = some (Processor x (suc y) at W)
-neighbour (Across zero y) N = none
-neighbour (Across (suc x) y) N = some (Across x y at S)
-neighbour (Across x y) S = some (Across (suc x) y at N)
-neighbour (Down x y) N = some (Processor x y at S)
-neighbour (Down x y) S = some (Processor (suc x) y at N)
-neighbour (Down x zero) W = none
-neighbour (Down x (suc y)) W = some (Down x y at E)
-neighbour (Down x y) E = some (Down x (suc y) at W)
+neighbour (Processor x y) E = Some (Across x y at W)
+neighbour (Processor x y) S = Some (Down x y at N)
+neighbour (Processor x zero) W = None
+neighbour (Processor x (suc y)) W = Some (Across x y at E)
+neighbour (Processor zero y) N = None
+neighbour (Processor (suc x) y) N = Some (Down x y at S)
+neighbour (Across x y) W = Some (Processor x y at E)
+neighbour (Across x y) E = Some (Processor x (suc y) at W)
+neighbour (Across zero y) N = None
+neighbour (Across (suc x) y) N = Some (Across x y at S)
+neighbour (Across x y) S = Some (Across (suc x) y at N)
+neighbour (Down x y) N = Some (Processor x y at S)
+neighbour (Down x y) S = Some (Processor (suc x) y at N)
+neighbour (Down x zero) W = None
+neighbour (Down x (suc y)) W = Some (Down x y at E)
+neighbour (Down x y) E = Some (Down x (suc y) at W)
 
 unfoldable pub stands : ℕ → ℕ → Node → Bool
 stands n m (Processor x y) = processor_at n m x y
@@ -80,8 +73,8 @@ stands n m (Across x y) = across_exists n m x y
 stands n m (Down x y) = down_exists n m x y
 
 abbrev pub if_stands : ℕ → ℕ → Option Port → Option Port
-if_stands n m none = none
-if_stands n m (some i) = cond (stands n m i.node) (some i) none
+if_stands n m None = None
+if_stands n m (Some i) = cond (stands n m i.node) (Some i) None
 
 -- the port at the other end of the stretch that begins at a port, if there is one; document 003 calls a stretch between
 -- two switches a segment
@@ -90,31 +83,31 @@ stretch_from w o = if_stands w.rows w.columns (neighbour o.node o.side)
 
 -- the pairs of ports that can be joined
 abbrev pub N–S : Compass → Option Compass
-N–S N = some S
-N–S S = some N
-N–S W = none
-N–S E = none
+N–S N = Some S
+N–S S = Some N
+N–S W = None
+N–S E = None
 
 abbrev pub W–E : Compass → Option Compass
-W–E W = some E
-W–E E = some W
-W–E N = none
-W–E S = none
+W–E W = Some E
+W–E E = Some W
+W–E N = None
+W–E S = None
 
 abbrev pub W–S·E–N : Compass → Option Compass
-W–S·E–N W = some S
-W–S·E–N S = some W
-W–S·E–N E = some N
-W–S·E–N N = some E
+W–S·E–N W = Some S
+W–S·E–N S = Some W
+W–S·E–N E = Some N
+W–S·E–N N = Some E
 
 abbrev pub W–N·E–S : Compass → Option Compass
-W–N·E–S W = some N
-W–N·E–S N = some W
-W–N·E–S E = some S
-W–N·E–S S = some E
+W–N·E–S W = Some N
+W–N·E–S N = Some W
+W–N·E–S E = Some S
+W–N·E–S S = Some E
 
 abbrev pub unjoined : Compass → Option Compass
-unjoined s = none
+unjoined s = None
 
 abbrev pub by_letter : {A : Type 0} → ℕ → A → A → A → A → A → A
 by_letter l ja jb jc jd other =
@@ -142,10 +135,10 @@ ends_link w (Down x y) = false
 -- the port of a node that is set to be joined inside to a port of it
 unfoldable pub set_to : Wafer → Node → Compass → Option Compass
 set_to w (Processor x y) s =
-    cond (inner_fault w.rows w.columns w.grid (position x y)) (fault_joins (get_or w.directions (position x y) 0) s) none
+    cond (inner_fault w.rows w.columns w.grid (position x y)) (fault_joins (get_or w.directions (position x y) 0) s) None
 set_to w (Across x y) s = across_joins (get_or w.across (position x y) 0) s
 set_to w (Down x y) s = down_joins (get_or w.down (position x y) 0) s
 
 -- and that is joined: none of a broken node
 unfoldable pub joined : Wafer → Node → Compass → Option Compass
-joined w v s = cond (w.broken v) none (set_to w v s)
+joined w v s = cond (w.broken v) None (set_to w v s)

@@ -1,24 +1,26 @@
 -- Document 01, "Placement and routing": what is proved of placement, links and letters once a plan is found, for every N and M from 1 to 30.
 -- Assumes nothing.
-use Rattle.std.specs.Prelude.{ℕ, ◌+◌, ◌≤◌, ◌<◌, ◌≡◌, Bool, true, ◌⊎◌, eqb, get_or}
+use Rattle.std.specs.Prelude.{ℕ, ◌+◌, ◌≤◌, ◌<◌, ◌≡◌, Bool, true, ◌⊎◌, eqb, get_or, Ok}
 use mathlib.Core.List.{List, Memᴰ}
 use Rattle.array.specs.Place.{position, row, column, processor}
 use Rattle.array.specs.Map.{healthy, well_formed}
-use Rattle.array.specs.declared.Verdict.TheVariants.{Accepted}
 use Rattle.plans.specs.Faults.{faults, directions_at, directed_faults}
 use Rattle.plans.specs.Plan.{Plan}
 use Rattle.track.specs.Placement.{placement}
 use Rattle.track.specs.Letters.{x, entry, across_exists, down_exists, across_letters, down_letters, vertical_at, horizontal_at}
-use Rattle.track.specs.Ports.{Wafer, Compass, W, N, Node, Port, ◌at◌, dead_node}
+use Rattle.track.specs.Ports.{Wafer, ◌at◌, dead_node}
+use Rattle.track.specs.declared.ports.Compass.{Compass}
+use Rattle.track.specs.declared.ports.Compass.TheVariants.{W, N}
+use Rattle.track.specs.declared.ports.Node.{Node}
+use Rattle.track.specs.declared.ports.Port.{Port}
 use Rattle.track.specs.Link.{Trail, Link, Enters, switches}
 use Rattle.track.specs.Pieces.{Piece, pieces, Same}
 use Rattle.track.specs.Follower.{port_number, processor_of, out_of, seat_of, followed, switches_test}
-use Rattle.track.specs.declared.Followed.TheVariants.{Entered}
 
 -- A well-formed map, directions that are a plan at its inner faults, the switches that routing sets for them, and what is
 -- broken is what the map says. Nothing is asked of what stands elsewhere among the directions.
 pub record Routed (w : Wafer) : Type 0 where
-  pub map : well_formed w.rows w.columns w.grid ≡ Accepted
+  pub map : well_formed w.rows w.columns w.grid ≡ Ok tt
   pub plan : Plan w.rows w.columns w.grid (directions_at w.directions (faults w.rows w.columns w.grid))
   pub across_set : w.across ≡ across_letters w.rows w.columns w.grid w.directions
   pub down_set : w.down ≡ down_letters w.rows w.columns w.grid w.directions
@@ -61,7 +63,7 @@ LinksReach =
 pub record Arrives (w : Wafer) (i j side k l : ℕ) (port : Compass) : Type 0 where
   pub passed : ℕ
   pub few : passed ≤ 3
-  pub answer : followed w (position i j) side ≡ Entered (record { position = holder w k l; port = port_number port; switches = passed })
+  pub answer : followed w (position i j) side ≡ Ok (record { position = holder w k l; port = port_number port; switches = passed })
 
 abbrev pub FollowerArrives : Type 0
 FollowerArrives =
@@ -109,7 +111,7 @@ PlacementHolds =
 abbrev pub SwitchesPass : Type 0
 SwitchesPass =
     (w : Wafer) → w.across ≡ across_letters w.rows w.columns w.grid w.directions
-    → w.down ≡ down_letters w.rows w.columns w.grid w.directions → switches_test w ≡ Accepted
+    → w.down ≡ down_letters w.rows w.columns w.grid w.directions → switches_test w ≡ Ok tt
 
 -- the entry of the table for these states is x
 abbrev pub printed_x : ℕ → ℕ → Bool

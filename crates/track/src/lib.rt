@@ -4,7 +4,10 @@
 ghost use Rattle.std.specs.Prelude.{◌≡◌, ◌≤◌};
 ghost use Rattle.track.specs.Letters.{letter};
 
+pub mod ports;
+
 use array::Refusal;
+pub use ports::{Compass, Node, Port};
 
 // Where a link comes out: the position of the processor, its port (W, E, N, S are 0 to 3), and how many switches were passed.
 #[derive(Clone, Copy)]
@@ -15,16 +18,13 @@ pub struct Landing {
 }
 
 // What the follower answers.
-#[derive(Clone, Copy)]
-pub enum Followed {
-    Entered(Landing),
-    Refused(Refusal),
-}
+pub type Followed = Result<Landing, Refusal>;
 
 // The functions of this crate are inner parts of the operations.
 
 // The letter of a switch between two processors with these routing states: west and east, or upper and lower.
 // Table II of document 003, its entries numbered along the rows from 0 to 24, with b at x.
+#[tactic(auto, unfolding(crate::specs::Letters::letter, crate::specs::Letters::entry, crate::specs::Letters::letters))]
 pub fn switch_letter(west: u8, east: u8) -> u8
     requires { (west ≤ 4) × (east ≤ 4) }
     ensures { result ≡ letter west east }

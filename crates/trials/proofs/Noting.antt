@@ -3,7 +3,6 @@
 use Prim.Native.Nat.{ℕ, ◌+◌, ◌-◌, ◌*◌, ◌≤◌, ◌<◌}
 use mathlib.Core.Path.{◌≡◌, refl, ap, ◌∙◌}
 use mathlib.Core.Bool.{Bool, true, false, cond}
-use mathlib.Core.Logic.{inl, inr, ⊎_elim}
 use mathlib.Core.List.{List}
 use native.Mathlib.Omega.{arith}
 use lib.Dec.{eqb}
@@ -15,7 +14,7 @@ use Rattle.trials.specs.Inner.{Notes, Noted}
 
 -- a note that is there says whether the path is open
 pub note_says : (note : ℕ) (opens : Bool) → Notes note opens → (note ≡ 0 → ⊥) → eqb note 2 ≡ opens
-note_says note opens s h = ⊎_elim (λ z. absurd (h z)) (λ e. ap (λ (k : ℕ). eqb k 2) e ∙ by opens) s
+note_says note opens s h = ap (λ (k : ℕ). eqb k 2) (s h) ∙ by opens
   where
     by : (b : Bool) → eqb (cond b 2 1) 2 ≡ b
     by true = refl
@@ -28,7 +27,7 @@ none_noted {starts = starts} len h =
       room = omega (arith, length-replicate {A = ℕ} len 0);
       right = λ k d l a b.
           let within : 4 * k + d - 1 < len = omega arith in
-          inl (get_or-replicate len (4 * k + d - 1) 0 0 within);
+          λ h. absurd (h (get_or-replicate len (4 * k + d - 1) 0 0 within));
     }
 
 module _ {n m : ℕ} {grid starts notes : List ℕ} (s : Noted n m grid starts notes) where
@@ -52,5 +51,5 @@ module _ {n m : ℕ} {grid starts notes : List ℕ} (s : Noted n m grid starts n
           (λ z.
           let x : l ≡ k = omega (arith, z) in
           let y : f ≡ d = omega (arith, z) in
-          rw (x, y, get_or-set_same notes i note 0 within) (inr e))
+          rw (x, y, get_or-set_same notes i note 0 within) (λ _. e))
           (λ z. rw (get_or-set_other notes i (4 * l + f - 1) note 0 z) (s.right l f g c u))

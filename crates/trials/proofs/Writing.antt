@@ -3,11 +3,12 @@
 use Prim.Native.Nat.{ℕ, suc, ◌≤◌, ◌<◌, ◌-◌}
 use mathlib.Core.Path.{◌≡◌, ap, sym, ◌∙◌}
 use mathlib.Core.Bool.{cond}
+use mathlib.Core.Logic.{◌⊎◌, ⊎_elim}
 use mathlib.Core.List.{List, []}
 use native.Mathlib.Omega.{arith}
 use borrow.Author.Tests.{eq-eqb, ne_eqb, leb-true}
 use lib.Dec.{eqb, leb}
-use lib.ListN.{length, get_or, set, take, drop, length-set}
+use lib.ListN.{length, get_or, set, take, drop, length-set, replicate, length-replicate, get_or-replicate}
 use lib.Seq.{drop-cons, drop-length, get_or-set_same, get_or-set_other, ext_get_or}
 use Rattle.array.specs.Buffer.{buffer, zeros, nothing_at}
 use Rattle.array.proofs.Bools.{by_eq, by_bool}
@@ -15,8 +16,17 @@ use Rattle.array.proofs.Fills.{tabulate_length, tabulate_at}
 use Rattle.plans.specs.Faults.{paired}
 use Rattle.trials.specs.Trials.{Search, found, exhausted}
 use Rattle.trials.specs.declared.Outcome.{Outcome}
+use Rattle.trials.specs.declared.Outcome.TheVariants.{Beyond, Spent}
 use Rattle.trials.specs.Search.{outcome, direction_of, directions_written}
 use Rattle.trials.specs.Inner.{Holds, finished}
+
+-- a buffer that holds 0 everywhere
+pub all_zero : (l : List ℕ) → length l ≡ 1024 → replicate (length l) 0 ≡ zeros
+all_zero l e =
+    ext_get_or 0 (replicate (length l) 0) zeros (length-replicate {A = ℕ} (length l) 0 ∙ e ∙ sym (tabulate_length nothing_at 1024))
+    (λ k h.
+    let w : k < length l = omega (arith, h, length-replicate {A = ℕ} (length l) 0) in
+    get_or-replicate (length l) k 0 0 w ∙ sym (tabulate_at nothing_at 1024 k 0 (omega arith)))
 
 module _ (starts chosen : List ℕ) where
   -- the direction at p, of the faults from k on
@@ -73,6 +83,13 @@ module _ (starts chosen : List ℕ) where
       (λ p m.
       let l : p < 1024 = omega arith in
       s.right p l ∙ ap (λ (i : ℕ). from i p) z ∙ sym (tabulate_at (from 0) 1024 p 0 l))
+
+-- it holds 0 everywhere where no plan is found
+pub nothing_finished : (starts chosen : List ℕ) (o : Outcome) → ((x : ℕ) × (o ≡ Beyond x)) ⊎ ((x : ℕ) × (o ≡ Spent x))
+    → finished starts chosen o ≡ zeros
+unfolding finished
+nothing_finished starts chosen o =
+    ⊎_elim (λ e. ap (finished starts chosen) e.1) (λ e. ap (finished starts chosen) e.1)
 
 -- the buffer by the outcome is that of the trials, where these directions are the plan found
 finished_written : (limit : ℕ) (starts xs : List ℕ) (s : Search) → Holds limit s xs

@@ -1,13 +1,12 @@
 -- What the inner parts of the planner promise each other: the starts of the faults, and working buffers with what is known of each.
 -- Assumes nothing.
-use Rattle.std.specs.Prelude.{ℕ, zero, suc, ◌+◌, ◌-◌, ◌*◌, ◌≤◌, ◌<◌, ◌≡◌, Bool, true, cond, ◌&&◌, ◌⊎◌, List, [], ◌∷◌, length, get_or}
+use Rattle.std.specs.Prelude.{ℕ, zero, suc, ◌+◌, ◌-◌, ◌*◌, ◌≤◌, ◌<◌, ◌≡◌, Bool, true, cond, ◌&&◌, List, [], ◌∷◌, length, get_or}
 use Rattle.array.specs.Map.{inner_fault}
 use Rattle.array.specs.Buffer.{Ascending, buffer, zeros}
 use Rattle.paths.specs.Path.{is_open, is_clear, clear}
-use Rattle.paths.specs.Table.{class, entry, ClashTable}
+use Rattle.paths.specs.Table.{class, entry}
 use Rattle.paths.specs.Inner.{PathAt}
 use Rattle.plans.specs.Faults.{fault, paired}
-use Rattle.plans.specs.Inner.{Beside}
 use Rattle.plans.specs.declared.Fault.{Fault}
 use Rattle.trials.specs.Trials.{Search, found, exhausted, keeps}
 use Rattle.trials.specs.Search.{direction_of}
@@ -53,21 +52,13 @@ entries_clear rows columns chosen k d (suc j) =
 
 -- what is noted of a path: 0 where it has not been asked for, else 1 where it is closed and 2 where it is open
 abbrev pub Notes : ℕ → Bool → Type 0
-Notes note opens = (note ≡ 0) ⊎ (note ≡ cond opens 2 1)
+Notes note opens = (note ≡ 0 → ⊥) → note ≡ cond opens 2 1
 
 -- a note for each direction of each fault
 pub record Noted (n m : ℕ) (grid starts notes : List ℕ) : Type 0 where
   pub room : 4 * length starts ≤ length notes
   pub right : (k d : ℕ) → k < length starts → 1 ≤ d → d ≤ 4
       → Notes (get_or notes (4 * k + d - 1) 0) (is_open n m grid (get_or starts k 0) d)
-
--- all that the trials work over: the faults, their rows and columns, the clash table, the notes, and room for a direction of each
-pub record Ready (n m : ℕ) (grid starts rows columns table notes chosen : List ℕ) : Type 0 where
-  pub search : Searchable n m grid starts
-  pub beside : Beside starts rows columns
-  pub clashes : ClashTable table
-  pub noted : Noted n m grid starts notes
-  pub room : length starts ≤ length chosen
 
 -- these directions are the plan found, where one is found within the limit
 abbrev pub Holds : ℕ → Search → List ℕ → Type 0

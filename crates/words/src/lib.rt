@@ -1,249 +1,146 @@
-// The lines of a text, the words of a line, and the numbers that they spell, for programs that read text.
+// The lines of a text, the words of a line, and what they spell, for programs that read text.
 #![tactic(auto)]
 
-ghost use Rattle.std.specs.Prelude.{◌≤◌, length};
+ghost use Rattle.std.specs.Prelude.{◌<◌, ◌≤◌, length, IfSome};
+ghost use Rattle.std.specs.Iterator.{at_most};
 
-// A word starts at `start` and ends before `end`. Where a line has no such word the two are equal.
+// How many words of a line are told apart.
+pub const MOST: usize = 10;
+
+// The lines of a text, first to last, each without its line end.
 #[derive(Clone, Copy)]
-pub struct Word {
-    pub start: usize,
-    pub end: usize,
+pub struct Lines<'a> {
+    rest: &'a [u8],
 }
 
-// A number, and whether a word spells it.
-#[derive(Clone, Copy)]
-pub struct Value {
-    pub value: usize,
-    pub ok: bool,
+impl<'a> Lines<'a> {
+    pub fn of(text: &'a [u8]) -> Self {
+        Lines { rest: text }
+    }
 }
 
-// Where the line that starts at an offset ends.
-pub fn line_end(text: &[u8], start: usize) -> usize
-    requires { start ≤ length text.now }
-    ensures { (start ≤ result) × (result ≤ length text.now) }
-{
-    let mut i = start;
-    while i < text.len() {
-        if text[i] == b'\n' {
-            return i;
+impl<'a> Iterator for Lines<'a> {
+    type Item = &'a [u8];
+
+    ghost remaining = { λ s. at_most (length s.rest.now) };
+
+    fn next(&mut self) -> Option<&'a [u8]> {
+        let rest = self.rest;
+        if rest.is_empty() {
+            return None;
         }
-        i += 1;
-    }
-    i
-}
-
-pub fn wide(b: u8) -> usize {
-    b as usize
-}
-
-// The byte at an offset, 0 where there is none.
-pub fn get(s: &[u8], i: usize) -> u8 {
-    if i < s.len() { s[i] } else { 0 }
-}
-
-// Writes a byte where the buffer has the offset.
-pub fn put(s: &mut [u8], i: usize, v: u8) {
-    if i < s.len() {
-        s[i] = v;
+        match rest.iter().position(|b| *b == b'\n') {
+            Some(end) => {
+                self.rest = &rest[end + 1..];
+                Some(&rest[..end])
+            }
+            None => {
+                self.rest = &[];
+                Some(rest)
+            }
+        }
     }
 }
 
-// Whether a byte stands between words: a space, a tab or a carriage return.
+// The words of a line, first to last: what stands between spaces, tabs and carriage returns.
+#[derive(Clone, Copy)]
+pub struct Words<'a> {
+    rest: &'a [u8],
+}
+
+impl<'a> Words<'a> {
+    pub fn of(line: &'a [u8]) -> Self {
+        Words { rest: line }
+    }
+}
+
+impl<'a> Iterator for Words<'a> {
+    type Item = &'a [u8];
+
+    ghost remaining = { λ s. at_most (length s.rest.now) };
+
+    fn next(&mut self) -> Option<&'a [u8]> {
+        let start = self.rest.iter().position(|b| !is_space(*b))?;
+        let (_, found) = self.rest.split_at(start);
+        let (_, after) = found.split_first()?;
+        let more = after
+            .iter()
+            .position(|b| is_space(*b))
+            .unwrap_or(after.len());
+        let (word, rest) = found.split_at(1 + more);
+        self.rest = rest;
+        Some(word)
+    }
+}
+
+// Whether a byte stands between words.
 fn is_space(b: u8) -> bool {
-    (b == b' ') | ((b == b'\t') | (b == b'\r'))
+    matches!(b, b' ' | b'\t' | b'\r')
 }
 
-fn stops(b: u8, spaces: bool) -> bool {
-    is_space(b) != spaces
+// The first words of a line, no more than `MOST`.
+#[derive(Clone, Copy)]
+pub struct FirstWords<'a> {
+    words: [&'a [u8]; MOST],
+    count: usize,
+    ghost within: { count ≤ 10 },
 }
 
-// Where the spaces, or the bytes that are none, end that start at an offset.
-fn run_end(line: &[u8], from: usize, spaces: bool) -> usize {
-    let mut i = from;
-    while i < line.len() {
-        if stops(line[i], spaces) {
-            return i;
+impl<'a> FirstWords<'a> {
+    pub fn of(line: &'a [u8]) -> Self {
+        let mut words = Words::of(line);
+        FirstWords {
+            words: std::array::from_fn(|_| words.next().unwrap_or_default()),
+            count: Words::of(line).count().min(MOST),
         }
-        i += 1;
     }
-    i
-}
 
-// The first word from an offset on.
-pub fn next_word(line: &[u8], from: usize) -> Word {
-    let start = run_end(line, from, true);
-    let end = run_end(line, start, false);
-    Word { start, end }
-}
-
-// The word with k words before it.
-pub fn word_at(line: &[u8], k: usize) -> Word {
-    let mut w = next_word(line, 0);
-    let mut left = k;
-    while 0 < left {
-        w = next_word(line, w.end);
-        left -= 1;
-    }
-    w
-}
-
-pub fn is_empty(w: Word) -> bool {
-    w.end <= w.start
-}
-
-// Whether a line has k words, of which there is at least one.
-pub fn has_words(line: &[u8], k: usize) -> bool {
-    if k == 0 {
-        return false;
-    }
-    if is_empty(word_at(line, k - 1)) {
-        return false;
-    }
-    is_empty(word_at(line, k))
-}
-
-// Whether a word is this name.
-fn is_name(line: &[u8], w: Word, name: &[u8]) -> bool {
-    let end = w.end;
-    let mut at = w.start;
-    let mut i = 0;
-    while i < name.len() {
-        if end <= at {
-            return false;
-        }
-        if get(line, at) != name[i] {
-            return false;
-        }
-        at += 1;
-        i += 1;
-    }
-    at == end
-}
-
-// Whether the word with k words before it is this name.
-pub fn is_word(line: &[u8], k: usize, name: &[u8]) -> bool {
-    is_name(line, word_at(line, k), name)
-}
-
-fn no_value() -> Value {
-    Value {
-        value: 0,
-        ok: false,
+    pub fn as_slice(&self) -> &[&'a [u8]] {
+        &self.words[..self.count]
     }
 }
 
-// The number with one decimal digit more, where it fits 64 bits.
-fn with_digit(v: Value, c: u8) -> Value {
-    let value = v.value;
-    if !v.ok {
-        return no_value();
+// The number that a word spells in decimal, where it fits 64 bits.
+pub fn number(word: &[u8]) -> Option<usize> {
+    if word.is_empty() {
+        return None;
     }
-    if c < 48 {
-        return no_value();
+    word.iter().try_fold(0usize, |value, c| {
+        let digit = char::from(*c).to_digit(10)?;
+        value.checked_mul(10)?.checked_add(digit as usize)
+    })
+}
+
+// The byte that a word stands for: a number below 256, a direction by its letter, or another character for its own code.
+pub fn byte(word: &[u8]) -> Option<u8> {
+    if let Some(value) = number(word) {
+        return u8::try_from(value).ok();
     }
-    if 57 < c {
-        return no_value();
-    }
-    let digit = wide(c - 48);
-    if 1844674407370955161 < value {
-        return no_value();
-    }
-    let ten = value * 10;
-    if 18446744073709551615 - ten < digit {
-        return no_value();
-    }
-    Value {
-        value: ten + digit,
-        ok: true,
+    match word {
+        b"S" => Some(1),
+        b"N" => Some(2),
+        b"E" => Some(3),
+        b"W" => Some(4),
+        [code] => Some(*code),
+        _ => None,
     }
 }
 
-// The number that a word spells in decimal.
-fn number_of(line: &[u8], w: Word) -> Value {
-    let end = w.end;
-    let mut at = w.start;
-    let mut v = Value {
-        value: 0,
-        ok: at < end,
-    };
-    while at < end {
-        v = with_digit(v, get(line, at));
-        at += 1;
-    }
-    v
-}
-
-// The number that the word with k words before it spells.
-pub fn number(line: &[u8], k: usize) -> Value {
-    number_of(line, word_at(line, k))
-}
-
-// What one character stands for: a direction, or its own code.
-fn code(c: u8) -> usize {
+// The value of a hexadecimal digit in lower case.
+fn hex_digit(c: u8) -> Option<u8>
+    ensures { IfSome result (λ d. d < 16) }
+{
     match c {
-        b'S' => 1,
-        b'N' => 2,
-        b'E' => 3,
-        b'W' => 4,
-        _ => wide(c),
-    }
-}
-
-// The byte that the word with k words before it stands for: a number below 256, or one character.
-pub fn byte_value(line: &[u8], k: usize) -> Value {
-    let w = word_at(line, k);
-    let v = number_of(line, w);
-    if v.ok {
-        return Value {
-            value: v.value,
-            ok: v.value < 256,
-        };
-    }
-    if is_empty(next_in(w)) {
-        return Value {
-            value: code(get(line, w.start)),
-            ok: !is_empty(w),
-        };
-    }
-    no_value()
-}
-
-// The word without its first character.
-fn next_in(w: Word) -> Word {
-    if w.start < w.end {
-        return Word {
-            start: w.start + 1,
-            end: w.end,
-        };
-    }
-    w
-}
-
-// The value of a hexadecimal digit, 16 where it is none.
-fn hex_digit(c: u8) -> u8 {
-    match c {
-        48..=57 => c - 48,
-        97..=102 => c - 87,
-        _ => 16,
+        b'0'..=b'9' => Some(c - b'0'),
+        b'a'..=b'f' => Some(c - b'a' + 10),
+        _ => None,
     }
 }
 
 // The byte that two hexadecimal digits spell.
-pub fn hex_byte(line: &[u8], w: Word) -> Value {
-    let second = next_in(w);
-    let high = hex_digit(get(line, w.start));
-    let low = hex_digit(get(line, second.start));
-    if 15 < high {
-        return no_value();
-    }
-    if 15 < low {
-        return no_value();
-    }
-    if is_empty(second) {
-        return no_value();
-    }
-    Value {
-        value: wide(high * 16 + low),
-        ok: is_empty(next_in(second)),
+pub fn hex_byte(word: &[u8]) -> Option<u8> {
+    match word {
+        [high, low] => Some(hex_digit(*high)? * 16 + hex_digit(*low)?),
+        _ => None,
     }
 }

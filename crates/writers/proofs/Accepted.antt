@@ -1,8 +1,8 @@
 -- What the tests of a buffer say where they accept it; the writer's definition by its cases.
 -- Assumes nothing.
 use Prim.Native.Nat.{ℕ, ◌+◌, ◌<◌, ◌≤◌}
-use mathlib.Core.Path.{◌≡◌, refl, sym, ap, ◌∙◌}
-use mathlib.Core.Bool.{Bool, true, not, ◌&&◌, ◌||◌}
+use mathlib.Core.Path.{◌≡◌, refl, sym, ◌∙◌}
+use mathlib.Core.Bool.{true, not, ◌&&◌}
 use mathlib.Core.Logic.{⊎_elim}
 use mathlib.Core.List.{List, [], ◌∷◌, ◌++◌}
 use native.Mathlib.Nat.{zero-add}
@@ -16,7 +16,7 @@ use Rattle.array.specs.Buffer.{long, all_long}
 use Rattle.array.specs.Tests.{or_else, refuse, first_in, refusal}
 use Rattle.array.specs.Map.{dead_mark, allowed, size_test, length_test, mark_test, map_tests}
 use Rattle.array.specs.declared.Refusal.{Refusal}
-use Rattle.array.specs.declared.Verdict.{Verdict}
+use Rattle.array.specs.Tests.{Verdict}
 use Rattle.array.proofs.Bools.{by_bool, or_true, or_false, and_one}
 use Rattle.array.proofs.Places.{Sized, sized}
 use Rattle.array.proofs.Verdicts.{both_accepted, accepted_not, accepted_false, false_accepted}
@@ -25,8 +25,7 @@ use Rattle.formats.specs.Records.{file_bytes}
 use Rattle.formats.specs.declared.Kind.{Kind}
 use Rattle.formats.specs.declared.Kind.TheVariants.{Map, Plan}
 use Rattle.writers.specs.Writing.{path_test, buffer_test, trials_test, room_test, put, write_file}
-use Rattle.writers.specs.declared.FileWritten.TheVariants.{Length, Refused}
-use Rattle.array.specs.declared.Verdict.TheVariants as verdict
+use Rattle.std.specs.Prelude.{Ok, Err}
 
 -- the test of one element: 3 of a map, 4 of a plan
 abbrev pub element_test : Kind → ℕ → ℕ → ℕ → ℕ → Verdict
@@ -52,7 +51,7 @@ mark_low n m p v h =
     (λ u. let l : v ≤ 1 = leb-true v 1 (rw (t, u) at h) in omega arith)
     (λ u. let l : v ≡ 2 = eqb-true v 2 (rw (t, u) at h) in omega arith))
 
-element_low : (kind : Kind) (n m p v : ℕ) → element_test kind n m p v ≡ verdict.Accepted → v ≤ 4
+element_low : (kind : Kind) (n m p v : ℕ) → element_test kind n m p v ≡ Ok tt → v ≤ 4
 element_low Map n m p v h = mark_low n m p v (accepted_not (allowed n m p v) 3 p 0 h)
 element_low Plan n m p v h =
     ltb-false 4 v (or_false (ltb 4 v) (not (inner n m p) && not (eqb v 0)) (accepted_false _ 4 p 0 h)).0
@@ -60,10 +59,10 @@ element_low Plan n m p v h =
 pub record Passed (kind : Kind) (n m : ℕ) (b : List ℕ) : Type 0 where
   pub sizes : Sized n m
   pub is_long : length b ≡ 1024
-  pub scanned : first_in (element_test kind n m) b ≡ verdict.Accepted
+  pub scanned : first_in (element_test kind n m) b ≡ Ok tt
   pub small : (p : ℕ) → p < length b → get_or b p 0 < 128
 
-pub passed : (kind : Kind) (n m : ℕ) (b : List ℕ) → buffer_test kind n m b ≡ verdict.Accepted → Passed kind n m b
+pub passed : (kind : Kind) (n m : ℕ) (b : List ℕ) → buffer_test kind n m b ≡ Ok tt → Passed kind n m b
 passed kind n m b h =
     let x = both_accepted _ _ (sym (tests_are kind n m b) ∙ h) in
     let y = both_accepted _ _ x.1 in
@@ -84,59 +83,54 @@ short_refuses b later h = rw (ne_eqb _ _ h)
 pub long_passes : (b : List ℕ) {v later : Verdict} → length b ≡ 1024 → v ≡ later → v ≡ or_else (length_test (all_long (b ∷ []))) later
 long_passes b h e = e ∙ rw (eq-eqb _ _ h)
 
--- the test of a direction at p, where a callee answered as r whether p is inner
-pub path_tested :
-    (n m p d : ℕ) {r : Bool} → r ≡ inner n m p → (ltb 4 d || (not r && not (eqb d 0))) ≡ (ltb 4 d || (not (inner n m p) && not (eqb d 0)))
-path_tested n m p d e = ap (λ (z : Bool). ltb 4 d || (not z && not (eqb d 0))) e
-
 -- the test of the trials
-pub trials_low : (t : ℕ) → trials_test Plan t ≡ verdict.Accepted → t < 2097152
+pub trials_low : (t : ℕ) → trials_test Plan t ≡ Ok tt → t < 2097152
 trials_low t h = let l : t ≤ 2097151 = ltb-false 2097151 t (accepted_false _ 21 0 0 h) in omega arith
 
-pub low_trials : (t : ℕ) → t < 2097152 → trials_test Plan t ≡ verdict.Accepted
+pub low_trials : (t : ℕ) → t < 2097152 → trials_test Plan t ≡ Ok tt
 low_trials t h = false_accepted 21 0 0 (le-ltb 2097151 t (omega arith))
 
 -- what is put where the tests are done
 module _ (bytes out : List ℕ) where
-  pub put_short : length out < length bytes → put (room_test bytes out) bytes out ≡ (Refused (refusal 14 (length bytes) 0), out)
+  pub put_short : length out < length bytes → put (room_test bytes out) bytes out ≡ (Err (refusal 14 (length bytes) 0), out)
   put_short l = rw (lt-ltb _ _ l)
 
-  pub put_whole : length bytes ≤ length out → put (room_test bytes out) bytes out ≡ (Length (length bytes), bytes ++ drop (length bytes) out)
+  pub put_whole : length bytes ≤ length out → put (room_test bytes out) bytes out ≡ (Ok (length bytes), bytes ++ drop (length bytes) out)
   put_whole l = rw (le-ltb _ _ l)
 
   -- the same as stores
-  pub put_stored : length bytes ≤ length out → put (room_test bytes out) bytes out ≡ (Length (length bytes), sets out 0 bytes)
+  pub put_stored : length bytes ≤ length out → put (room_test bytes out) bytes out ≡ (Ok (length bytes), sets out 0 bytes)
   put_stored l =
       let e : sets out 0 bytes ≡ bytes ++ drop (0 + length bytes) out = sets-eq bytes out 0 (omega arith) in
       put_whole l ∙ rw (e, zero-add)
 
   -- where the test of the room stands after others
-  pub put_refused : {v : Verdict} (r : Refusal) → v ≡ verdict.Refused r → put v bytes out ≡ (Refused r, out)
+  pub put_refused : {v : Verdict} (r : Refusal) → v ≡ Err r → put v bytes out ≡ (Err r, out)
   put_refused r h = rw h
 
-  pub room_enough : room_test bytes out ≡ verdict.Accepted → length bytes ≤ length out
+  pub room_enough : room_test bytes out ≡ Ok tt → length bytes ≤ length out
   room_enough h = ltb-false _ _ (accepted_false _ 14 (length bytes) 0 h)
 
   pub put_tested :
       (v : Verdict) →
-      or_else v (room_test bytes out) ≡ verdict.Accepted →
-      put (or_else v (room_test bytes out)) bytes out ≡ (Length (length bytes), sets out 0 bytes)
+      or_else v (room_test bytes out) ≡ Ok tt →
+      put (or_else v (room_test bytes out)) bytes out ≡ (Ok (length bytes), sets out 0 bytes)
   put_tested v h = let x = both_accepted v _ h in rw x.0 (put_stored (room_enough x.1))
 
 module _ (kind : Kind) (n m : ℕ) (b : List ℕ) (t : ℕ) (out : List ℕ) where
-  pub file_refused : (r : Refusal) → buffer_test kind n m b ≡ verdict.Refused r → write_file kind n m b t out ≡ (Refused r, out)
+  pub file_refused : (r : Refusal) → buffer_test kind n m b ≡ Err r → write_file kind n m b t out ≡ (Err r, out)
   unfolding write_file
   file_refused r h = rw h
 
   pub file_accepted :
-      buffer_test kind n m b ≡ verdict.Accepted →
+      buffer_test kind n m b ≡ Ok tt →
       write_file kind n m b t out
       ≡ put (or_else (trials_test kind t) (room_test (file_bytes kind n m b t) out)) (file_bytes kind n m b t) out
   unfolding write_file
   file_accepted h = rw h
 
   pub file_recorded :
-      buffer_test kind n m b ≡ verdict.Accepted →
-      trials_test kind t ≡ verdict.Accepted →
+      buffer_test kind n m b ≡ Ok tt →
+      trials_test kind t ≡ Ok tt →
       write_file kind n m b t out ≡ put (room_test (file_bytes kind n m b t) out) (file_bytes kind n m b t) out
   file_recorded h g = file_accepted h ∙ rw g

@@ -6,10 +6,10 @@ use native.Mathlib.Omega.{arith}
 use Rattle.array.specs.Tests.{LosesNothing}
 use Rattle.array.proofs.Answers.{refusal_kept}
 use Rattle.writers.specs.Writing.{told}
-use Rattle.writers.specs.declared.FileWritten.TheVariants.{Length, Refused}
+use Rattle.std.specs.Prelude.{Ok, Err}
 
 pub written_kept : LosesNothing told
-written_kept (Length k) (Length j) h = ap Length (cc)
-written_kept (Length k) (Refused s) h = let z : ◌≡◌ {A = ℕ} 0 1 = cc in absurd (omega arith)
-written_kept (Refused r) (Length j) h = let z : ◌≡◌ {A = ℕ} 0 1 = cc in absurd (omega arith)
-written_kept (Refused r) (Refused s) h = ap Refused (refusal_kept r s h)
+written_kept (Ok k) (Ok j) h = ap Ok (cc)
+written_kept (Ok k) (Err s) h = let z : ◌≡◌ {A = ℕ} 0 1 = cc in absurd (omega arith)
+written_kept (Err r) (Ok j) h = let z : ◌≡◌ {A = ℕ} 0 1 = cc in absurd (omega arith)
+written_kept (Err r) (Err s) h = ap Err (refusal_kept r s h)

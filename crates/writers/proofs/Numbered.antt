@@ -1,17 +1,17 @@
 -- The numbers of the writers, 1 to 4 and 14, are document 01's, and 21 is document 02's.
 -- Assumes nothing.
+use Rattle.std.specs.Prelude.{Ok, Err}
 use Prim.Native.Nat.{ℕ}
 use mathlib.Core.List.{List}
-use Rattle.array.specs.declared.Verdict.{Verdict}
-use Rattle.array.specs.declared.Verdict.TheVariants.{Accepted, Refused}
+use Rattle.array.specs.Tests.{Verdict}
 use Rattle.array.proofs.Numbered.{NumberedAs, NumberedVerdict, numbers, map_numbered}
 use Rattle.formats.specs.declared.Kind.{Kind}
 use Rattle.formats.specs.declared.Kind.TheVariants.{Map, Plan}
 use Rattle.writers.specs.Writing.{told, buffer_test, trials_test, room_test, put, write_file}
 
 numbered_put : (v : Verdict) (bytes out : List ℕ) → NumberedVerdict v → NumberedAs told (put v bytes out).0
-numbered_put Accepted bytes out h = search numbers
-numbered_put (Refused r) bytes out h = record { numbered = h.numbered }
+numbered_put (Ok tt) bytes out h = search numbers
+numbered_put (Err r) bytes out h = record { numbered = h.numbered }
 
 buffer_numbered : (kind : Kind) (n m : ℕ) (b : List ℕ) → NumberedVerdict (buffer_test kind n m b)
 unfolding buffer_test

@@ -9,10 +9,10 @@ use native.Mathlib.Omega.{arith}
 use lib.Dec.{eqb}
 use lib.ListN.{length, get_or, drop, length-append, drop_of_length-le}
 use lib.Seq.{drop-cons}
-use borrow.Author.Tests.{eq-eqb, ne_eqb}
+use borrow.Author.Tests.{ne_eqb}
 use Rattle.array.specs.Place.{row, column}
 use Rattle.array.specs.Buffer.{positions_along}
-use Rattle.array.proofs.Bools.{by_bool, cond_taken, cond_left}
+use Rattle.array.proofs.Bools.{by_bool, cond_left}
 use Rattle.formats.specs.Number.{bytes_of}
 use Rattle.formats.specs.Records.{recorded, record_bytes, records_along, record_count, list_bytes, first_list, rest_bytes, file_bytes}
 use Rattle.formats.specs.declared.Kind.{Kind}
@@ -22,6 +22,27 @@ use Rattle.formats.specs.declared.Record.TheVariants.{Fault, Dead, Path}
 use Rattle.formats.proofs.Cases.{one_byte}
 use Rattle.writers.specs.Parts.{pair_bytes, value_bytes, element_bytes, records_of, records_length, list_length, dead_count, dead_list, rest_length}
 use Rattle.formats.proofs.Runs.{Splits}
+use Rattle.std.specs.Prelude.{count_by}
+use Rattle.std.proofs.lemmas.List.Sums.{sum_by-cons}
+
+-- how many records a buffer has: those of its elements that have one, wherever they stand
+recorded_anywhere : (kind : Record) (p v : ℕ) → recorded kind p v ≡ recorded kind 0 v
+recorded_anywhere Fault p v = refl
+recorded_anywhere Dead p v = refl
+recorded_anywhere Path p v = refl
+
+counted_along : (kind : Record) (i : ℕ) (xs : List ℕ) → length (positions_along (recorded kind) i xs) ≡ count_by (recorded kind 0) xs
+unfolding positions_along
+counted_along kind i [] = refl
+counted_along kind i (x ∷ xs) =
+    let e = recorded_anywhere kind i x in
+    let h = counted_along kind (suc i) xs in
+    let s = sum_by-cons (λ (v : ℕ). cond (recorded kind 0 v) 1 0) x xs in
+    by_bool (recorded kind 0 x) (λ t. rw (e, s, t) (omega (arith, h))) (λ t. rw (e, s, t) (omega (arith, h)))
+
+pub counted_by : (kind : Record) (b : List ℕ) → record_count kind b ≡ count_by (recorded kind 0) b
+unfolding record_count
+counted_by kind b = counted_along kind 0 b
 
 -- a record is its row with its column, and its value
 pub record_is : (kind : Record) (p v : ℕ) → record_bytes kind p v ≡ pair_bytes (row p) (column p) ++ value_bytes kind v
@@ -47,19 +68,8 @@ sizes_first kind n m b t = record { is = sym (append_assoc (bytes_of n) (bytes_o
 
 -- the list of k dead processors
 module _ (k : ℕ) (b : List ℕ) where
-  pub dead_none : k ≡ 0 → dead_list k b ≡ []
-  dead_none z = cond_taken [] (list_bytes Dead b) refl (eq-eqb k 0 z)
-
   pub dead_some : (k ≡ 0 → ⊥) → dead_list k b ≡ list_bytes Dead b
   dead_some z = cond_left [] (list_bytes Dead b) refl (ne_eqb k 0 z)
-
--- the bytes of an element whose test a callee answered as r
-module _ (kind : Record) (p v : ℕ) {r : Bool} (e : r ≡ recorded kind p v) where
-  pub element_some : r ≡ true → element_bytes kind p v ≡ record_bytes kind p v
-  element_some t = cond_taken (record_bytes kind p v) [] e t
-
-  pub element_none : r ≡ false → element_bytes kind p v ≡ []
-  element_none t = cond_left (record_bytes kind p v) [] e t
 
 cond_append : (t : Bool) (a r : List ℕ) → cond t (a ++ r) r ≡ cond t a [] ++ r
 cond_append true a r = refl

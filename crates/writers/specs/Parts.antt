@@ -1,16 +1,13 @@
 -- What the parts of a writer write, for all kinds of record. Assumes nothing.
-use Rattle.std.specs.Prelude.{ℕ, ◌+◌, ◌*◌, ◌≤◌, ◌≡◌, cond, List, [], ◌++◌, ltb, eqb, length}
+use Rattle.std.specs.Prelude.{ℕ, ◌+◌, ◌*◌, ◌≤◌, ◌≡◌, cond, List, [], ◌++◌, ltb, eqb, length, Ok}
 use Rattle.array.specs.Tests.{refuse_if}
-use Rattle.array.specs.declared.Verdict.{Verdict}
-use Rattle.array.specs.declared.Verdict.TheVariants.{Accepted}
+use Rattle.array.specs.Tests.{Verdict}
 use Rattle.formats.specs.Number.{bytes_of}
-use Rattle.formats.specs.Records.{recorded, record_bytes, records_along, record_count, list_bytes, first_list, rest_bytes, file_bytes}
+use Rattle.formats.specs.Records.{recorded, record_bytes, records_along, record_count, list_bytes, first_list, file_bytes}
 use Rattle.formats.specs.declared.Kind.{Kind}
 use Rattle.formats.specs.declared.Kind.TheVariants.{Map, Plan}
 use Rattle.formats.specs.declared.Record.{Record}
 use Rattle.formats.specs.declared.Record.TheVariants.{Fault, Dead, Path}
-use Rattle.writers.specs.declared.Part.{Part}
-use Rattle.writers.specs.declared.Part.TheVariants.{First, Rest}
 use Rattle.writers.specs.Writing.{trials_test}
 
 -- the bytes of two numbers
@@ -56,26 +53,18 @@ abbrev pub rest_length : Kind → ℕ → ℕ → ℕ
 rest_length Map dead t = dead_length dead
 rest_length Plan dead t = length (bytes_of t)
 
--- the bytes of a part after N and M
-abbrev pub part_bytes : Kind → Part → List ℕ → ℕ → List ℕ
-part_bytes kind First b t = list_bytes (first_list kind) b
-part_bytes kind Rest b t = rest_bytes kind b t
-
 -- room for so many bytes
 abbrev pub room_for : ℕ → ℕ → Verdict
 room_for needed room = refuse_if (ltb room needed) 14 needed 0
 
--- what the parts after N and M are written under, and what the whole file is
-pub record FittingParts (kind : Kind) (count dead t : ℕ) (b : List ℕ) : Type 0 where
+-- what the whole file is written under
+pub record Fitting (kind : Kind) (n m count dead t : ℕ) (b out : List ℕ) : Type 0 where
+  pub rows : n ≤ 30
+  pub columns : m ≤ 30
   pub long : length b ≡ 1024
   pub counted : count ≡ record_count (first_list kind) b
   pub few : count ≤ 1024
   pub dead_counted : dead ≡ dead_count kind b
   pub few_dead : dead ≤ 1024
-  pub low_trials : trials_test kind t ≡ Accepted
-
-pub record Fitting (kind : Kind) (n m count dead t : ℕ) (b out : List ℕ) : Type 0 where
-  pub rows : n ≤ 30
-  pub columns : m ≤ 30
-  pub parts : FittingParts kind count dead t b
+  pub low_trials : trials_test kind t ≡ Ok tt
   pub room : length (file_bytes kind n m b t) ≤ length out

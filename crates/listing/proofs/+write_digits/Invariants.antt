@@ -1,5 +1,0 @@
--- Fewer digits may still come at each call.
-use Rattle.listing.proofs.+write_digits.Given as goal
-
-abbrev pub decreases-write_digits : goal.decreases-write_digits
-decreases-write_digits l = l.more

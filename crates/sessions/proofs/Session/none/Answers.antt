@@ -1,0 +1,7 @@
+use Rattle.std.proofs.Common.{refl}
+use Rattle.array.specs.Buffer.{span}
+use Rattle.sessions.proofs.Session.none.Goals as goal
+
+pub returns : goal.returns
+unfolding span
+returns c = refl
