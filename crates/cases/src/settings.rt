@@ -162,12 +162,14 @@ impl State {
     // The line `file BYTES`. A word that is no byte leaves the one that is there.
     pub fn set_file(&mut self, line: &[u8]) {
         let bytes = Words::of(line).skip(1);
+        let mut lent: usize = 0;
         for (own, word) in self.file.all_mut().iter_mut().zip(bytes) {
             match words::hex_byte(word) {
                 Some(byte) => *own = byte,
                 None => show::say(" -> error"),
             }
+            lent = lent.saturating_add(1);
         }
-        self.file.lend(Words::of(line).skip(1).count());
+        self.file.lend(lent);
     }
 }

@@ -20,6 +20,7 @@ use Rattle.paths.proofs.Agreement.{entry_is_clash}
 use Rattle.paths.proofs.Entries.{byte_clear}
 use Rattle.paths.proofs.Ways.{start_inner}
 use Rattle.counters.specs.Count.{counts, altered_by, altered_at, counters_after}
+use Rattle.counters.specs.Inner.{altered_here}
 
 -- a start as the clash table takes it
 pub start_path : {n m p d : ℕ} → Start n m p d → PathAt (row p) (column p) d
@@ -104,6 +105,14 @@ module _ {n m : ℕ} {up : Bool} {q e d : ℕ} where
         (λ k a b.
         let z : k ≡ p = omega arith in
         subst (λ (j : ℕ). (inner n m j && counts n m d j q e) ≡ false) (sym z) (rw f (and_none (inner n m p))))
+
+    -- one counter altered where the path counts, and kept where it does not
+    pub alter_here : {next : List ℕ} → p < 1024 → inner n m p ≡ true → next ≡ altered_here n m up q e d p new
+        → Altering n m up q e d (p + 1) old next
+    alter_here {next} l i h =
+        by_bool (counts n m d p q e)
+        (λ t. let z : next ≡ set new p (altered_by up (get_or new p 0)) = h ∙ rw t refl in rw z (alter_step l i t refl))
+        (λ t. let z : next ≡ new = h ∙ rw t refl in rw z (alter_stay l t))
 
     -- nor is there anything to alter beyond the inner positions
     pub alter_past : (r : ℕ) → p ≤ r → r ≤ 1024 → ((k : ℕ) → p ≤ k → k < r → Inner n m k → ⊥) → Altering n m up q e d r old new

@@ -46,13 +46,16 @@ pub record Tallying (n m : ℕ) (directions : List ℕ) (d q : ℕ) (counters : 
   pub held : counters ≡ buffer (so_far n m k)
 
 module _ {n m : ℕ} {directions : List ℕ} (kept : Kept n m directions) (d : ℕ) where
-  pub tally_start : Tallying n m directions d 0 (replicate 1024 0)
-  tally_start =
+  pub tally_zeros : {counters : List ℕ} → counters ≡ zeros → Tallying n m directions d 0 counters
+  tally_zeros h =
       record {
         k = λ p. 0;
         counted = λ p. count_start (counts n m d p) directions;
-        held = new_zeros ∙ buffer_same _ _ (λ p l. by_bool (inner n m p) (λ i. rw i) (λ i. rw i));
+        held = h ∙ buffer_same _ _ (λ p l. by_bool (inner n m p) (λ i. rw i) (λ i. rw i));
       }
+
+  pub tally_start : Tallying n m directions d 0 (replicate 1024 0)
+  tally_start = tally_zeros new_zeros
 
   module _ {q : ℕ} {counters : List ℕ} (s : Tallying n m directions d q counters) (below : q < 1024) where
     long : q < length directions

@@ -13,6 +13,7 @@ mod repaired;
 ghost use Rattle.std.specs.Prelude.{◌≤◌};
 
 use answers::Refused;
+use console::Console;
 use counts::{Count, Difference, Tally};
 use random::Random;
 use second::links::Marks;
@@ -135,11 +136,12 @@ impl Comparison {
     }
 }
 
-fn main(rt: HostRuntime) -> io::Result<()> {
+fn main() {
     let mut comparison = Comparison {
         marks: Marks::new(),
         tally: Tally::NEW,
     };
-    comparison.cross_all(&rt)?;
-    comparison.tally.print(&rt)
+    // What cannot be written is lost: the status stays 0.
+    let _ = comparison.cross_all(&Console);
+    let _ = comparison.tally.print(&Console);
 }

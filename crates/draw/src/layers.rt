@@ -2,7 +2,7 @@
 use crate::heading::Heading;
 use crate::wafer::{Wafer, x_of, y_of};
 use crate::{links, wafer};
-use std::io::{Result, Write};
+use std::fmt::{Result, Write};
 
 // What a layer draws. A path has a direction, a link the heading in which it leaves its cell.
 #[derive(Clone, Copy, Debug, PartialEq, Eq, Hash)]
@@ -39,7 +39,7 @@ const LAYERS: [Layer; 16] = [
 ];
 
 // The number of p's column above the first row, and that of p's row before the first column.
-fn labels(out: &mut impl Write, wafer: &Wafer<'_>, p: usize) -> Result<()> {
+fn labels(out: &mut impl Write, wafer: &Wafer<'_>, p: usize) -> Result {
     let (row, column) = (p / 32, p % 32);
     if row == 0 && wafer.has_processor(column + 32) {
         writeln!(out, "<text x='{}' y='-36'>{column}</text>", x_of(p))?;
@@ -51,7 +51,7 @@ fn labels(out: &mut impl Write, wafer: &Wafer<'_>, p: usize) -> Result<()> {
 }
 
 // A line from the processor at p, where there is one.
-fn track(out: &mut impl Write, on: bool, p: usize, line: &str) -> Result<()> {
+fn track(out: &mut impl Write, on: bool, p: usize, line: &str) -> Result {
     if on {
         write!(out, "M{} {}{line}", x_of(p), y_of(p))?;
     }
@@ -59,7 +59,7 @@ fn track(out: &mut impl Write, on: bool, p: usize, line: &str) -> Result<()> {
 }
 
 // The tracks on both sides of the switches filed under p, and from these switches to the next ones of their channels.
-fn tracks(out: &mut impl Write, wafer: &Wafer<'_>, p: usize) -> Result<()> {
+fn tracks(out: &mut impl Write, wafer: &Wafer<'_>, p: usize) -> Result {
     let across = wafer.has_across(p);
     let down = wafer.has_down(p);
     track(out, across, p, "h72")?;
@@ -88,13 +88,13 @@ fn end_of(wafer: &Wafer<'_>, d: Heading) -> usize {
 }
 
 // The path from p in direction d to the middle of its spare.
-fn path(out: &mut impl Write, wafer: &Wafer<'_>, p: usize, d: Heading) -> Result<()> {
+fn path(out: &mut impl Write, wafer: &Wafer<'_>, p: usize, d: Heading) -> Result {
     let axis = if d.is_across() { "H" } else { "V" };
     write!(out, "M{} {}{axis}{}", x_of(p), y_of(p), end_of(wafer, d))
 }
 
 // The arrowhead of the path from p in direction d, at its spare.
-fn head(out: &mut impl Write, wafer: &Wafer<'_>, p: usize, d: Heading) -> Result<()> {
+fn head(out: &mut impl Write, wafer: &Wafer<'_>, p: usize, d: Heading) -> Result {
     let (x, y, end) = (x_of(p), y_of(p), end_of(wafer, d));
     match d {
         Heading::South => write!(out, "M{x} {end}m0-4l-25-25h50z"),
@@ -105,7 +105,7 @@ fn head(out: &mut impl Write, wafer: &Wafer<'_>, p: usize, d: Heading) -> Result
 }
 
 // A symbol by its name, at a position.
-fn symbol(out: &mut impl Write, name: &str, p: usize) -> Result<()> {
+fn symbol(out: &mut impl Write, name: &str, p: usize) -> Result {
     writeln!(
         out,
         "<use xlink:href='#{name}' x='{}' y='{}'/>",
@@ -126,7 +126,7 @@ fn fault(mark: u8, path: Option<Heading>) -> &'static str {
 }
 
 // The processor at p: inner, spare, or a fault, dead or with what its path joins.
-fn processor(out: &mut impl Write, wafer: &Wafer<'_>, p: usize) -> Result<()> {
+fn processor(out: &mut impl Write, wafer: &Wafer<'_>, p: usize) -> Result {
     let mark = wafer.mark(p);
     if array::is_faulty(mark) {
         symbol(out, fault(mark, wafer.direction(p)), p)
@@ -138,7 +138,7 @@ fn processor(out: &mut impl Write, wafer: &Wafer<'_>, p: usize) -> Result<()> {
 }
 
 // The processor that holds the cell of p, where the cell moved.
-fn moved(out: &mut impl Write, wafer: &Wafer<'_>, p: usize) -> Result<()> {
+fn moved(out: &mut impl Write, wafer: &Wafer<'_>, p: usize) -> Result {
     match wafer.place(p) {
         Some(place) if place != p => {
             let way = Heading::of_move(p, place);
@@ -154,7 +154,7 @@ fn moved(out: &mut impl Write, wafer: &Wafer<'_>, p: usize) -> Result<()> {
 }
 
 // A switch, where there is one, with its letter, where it has one.
-fn switch(out: &mut impl Write, on: bool, kind: char, letter: u8, p: usize) -> Result<()> {
+fn switch(out: &mut impl Write, on: bool, kind: char, letter: u8, p: usize) -> Result {
     if on {
         let second = if letter == 0 { 'o' } else { char::from(letter) };
         writeln!(
@@ -168,13 +168,13 @@ fn switch(out: &mut impl Write, on: bool, kind: char, letter: u8, p: usize) -> R
 }
 
 // The switches filed under p.
-fn switches(out: &mut impl Write, wafer: &Wafer<'_>, p: usize) -> Result<()> {
+fn switches(out: &mut impl Write, wafer: &Wafer<'_>, p: usize) -> Result {
     switch(out, wafer.has_across(p), 'a', wafer.across_letter(p), p)?;
     switch(out, wafer.has_down(p), 'd', wafer.down_letter(p), p)
 }
 
 // The cell of p, where it has one: its index, in the processor that holds it.
-fn cell(out: &mut impl Write, wafer: &Wafer<'_>, p: usize) -> Result<()> {
+fn cell(out: &mut impl Write, wafer: &Wafer<'_>, p: usize) -> Result {
     let Some(place) = wafer.place(p) else {
         return Ok(());
     };
@@ -191,7 +191,7 @@ fn cell(out: &mut impl Write, wafer: &Wafer<'_>, p: usize) -> Result<()> {
 
 impl Layer {
     // What the layer draws at p.
-    fn draw_at(self, out: &mut impl Write, wafer: &Wafer<'_>, p: usize) -> Result<()> {
+    fn draw_at(self, out: &mut impl Write, wafer: &Wafer<'_>, p: usize) -> Result {
         match self {
             Layer::Labels => labels(out, wafer, p),
             Layer::Tracks => tracks(out, wafer, p),
@@ -206,7 +206,7 @@ impl Layer {
         }
     }
 
-    fn open(self, out: &mut impl Write) -> Result<()> {
+    fn open(self, out: &mut impl Write) -> Result {
         match self {
             Layer::Labels => writeln!(out, "<g class='n' transform='translate(0 4)'>"),
             Layer::Tracks => write!(out, "<path class='u' d='"),
@@ -218,7 +218,7 @@ impl Layer {
         }
     }
 
-    fn close(self, out: &mut impl Write) -> Result<()> {
+    fn close(self, out: &mut impl Write) -> Result {
         match self {
             Layer::Tracks | Layer::Paths(_) | Layer::Heads(_) | Layer::Links(_) => writeln!(
                 out,
@@ -230,7 +230,7 @@ impl Layer {
 }
 
 // The wafer, layer by layer.
-pub fn draw(out: &mut impl Write, wafer: &Wafer<'_>) -> Result<()> {
+pub fn draw(out: &mut impl Write, wafer: &Wafer<'_>) -> Result {
     for layer in LAYERS {
         layer.open(out)?;
         for p in 0..1024 {

@@ -6,7 +6,7 @@ ghost use Rattle.std.specs.Prelude.{◌≤◌};
 use crate::heading::Heading;
 use crate::wafer;
 use crate::wafer::Wafer;
-use std::io::{Result, Write};
+use std::fmt::{Error, Result, Write};
 
 // A point of the lattice.
 #[derive(Clone, Copy)]
@@ -103,7 +103,7 @@ fn after_processor(mark: u8, path: Option<Heading>, heading: Heading) -> Option<
 }
 
 // A line in a heading, with a minus sign where the heading goes back.
-fn line(out: &mut impl Write, heading: Heading, length: usize) -> Result<()> {
+fn line(out: &mut impl Write, heading: Heading, length: usize) -> Result {
     let command = match heading {
         Heading::West => "h-",
         Heading::East => "h",
@@ -133,13 +133,13 @@ fn down_part(from: Heading, to: Heading) -> &'static str {
 }
 
 // A quarter turn inside a switch, from one heading to another.
-fn turn(out: &mut impl Write, from: Heading, to: Heading) -> Result<()> {
+fn turn(out: &mut impl Write, from: Heading, to: Heading) -> Result {
     write!(out, "q{}{}", across_part(from, from), down_part(from, from))?;
     write!(out, "{}{}", across_part(from, to), down_part(from, to))
 }
 
 // What a link draws inside a switch, a fault or a crossing of a half width: a line straight on, which a crossing needs none of, or a turn.
-fn inside(out: &mut impl Write, half: usize, from: Heading, to: Heading) -> Result<()>
+fn inside(out: &mut impl Write, half: usize, from: Heading, to: Heading) -> Result
     requires { half ≤ 20 }
 {
     if from != to {
@@ -158,7 +158,7 @@ fn advance(
     from: Point,
     to: Point,
     heading: Heading,
-) -> Result<Option<Heading>> {
+) -> std::result::Result<Option<Heading>, Error> {
     let half = to.reach();
     line(
         out,
@@ -173,7 +173,7 @@ fn advance(
 }
 
 // The start of a link: the east or the south port of a processor.
-fn port(out: &mut impl Write, from: usize, heading: Heading) -> Result<()> {
+fn port(out: &mut impl Write, from: usize, heading: Heading) -> Result {
     let (x, y) = if heading.is_across() {
         (20, 0)
     } else {
@@ -183,7 +183,7 @@ fn port(out: &mut impl Write, from: usize, heading: Heading) -> Result<()> {
 }
 
 // The link that leaves the processor at `from` heading east or south. Sixteen points are more than a link over three switches has.
-fn link(out: &mut impl Write, wafer: &Wafer<'_>, from: usize, start: Heading) -> Result<()> {
+fn link(out: &mut impl Write, wafer: &Wafer<'_>, from: usize, start: Heading) -> Result {
     port(out, from, start)?;
     let mut at = Point {
         row: from / 32 * 2,
@@ -212,12 +212,7 @@ fn has_neighbour(wafer: &Wafer<'_>, p: usize, heading: Heading) -> bool {
 }
 
 // The link of the cell of p to its neighbour in a heading, where it has one.
-pub fn cell_link(
-    out: &mut impl Write,
-    wafer: &Wafer<'_>,
-    p: usize,
-    heading: Heading,
-) -> Result<()> {
+pub fn cell_link(out: &mut impl Write, wafer: &Wafer<'_>, p: usize, heading: Heading) -> Result {
     match wafer.place(p) {
         Some(place) if has_neighbour(wafer, p, heading) => link(out, wafer, place, heading),
         _ => Ok(()),

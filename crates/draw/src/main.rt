@@ -9,10 +9,11 @@ mod wafer;
 mod words;
 
 use array::Refusal;
+use console::Console;
 use counts::Counted;
 use readers::Head;
 use repair::Answer;
-use std::io::{BufWriter, Result, Write};
+use std::fmt::{Result, Write};
 use trials::Outcome;
 use wafer::Wafer;
 
@@ -32,7 +33,7 @@ fn verdict(o: Outcome) -> (&'static str, u32) {
 }
 
 // The title: the sizes, the number of faults and the outcome.
-fn title(out: &mut impl Write, head: Head, o: Outcome) -> Result<()> {
+fn title(out: &mut impl Write, head: Head, o: Outcome) -> Result {
     let faults = Counted {
         number: head.count as u64,
         thing: "fault",
@@ -56,7 +57,7 @@ fn extent(margin: u16, k: usize, least: usize) -> usize {
 }
 
 // The beginning of the picture of a map: its symbols, title and legend, which needs more height where there is a plan.
-fn draw_frame(out: &mut impl Write, head: Head, o: Outcome) -> Result<()> {
+fn draw_frame(out: &mut impl Write, head: Head, o: Outcome) -> Result {
     let planned = matches!(o, Outcome::Repaired(_));
     let least = if planned { 503 } else { 0 };
     words::open(
@@ -64,14 +65,14 @@ fn draw_frame(out: &mut impl Write, head: Head, o: Outcome) -> Result<()> {
         extent(320, head.columns, 560),
         extent(150, head.rows, least),
     )?;
-    out.write_all(words::SYMBOLS.as_bytes())?;
+    out.write_str(words::SYMBOLS)?;
     title(out, head, o)?;
     words::legend(out, extent(140, head.columns, 0), planned)?;
     writeln!(out, "<g transform='translate(76 100)'>")
 }
 
 // The picture of a refused file: the number, the place and the reason.
-fn draw_refusal(out: &mut impl Write, r: Refusal) -> Result<()> {
+fn draw_refusal(out: &mut impl Write, r: Refusal) -> Result {
     words::open(out, 560, 100)?;
     writeln!(
         out,
@@ -95,7 +96,7 @@ fn draw_planned(
     o: Outcome,
     grid: &[u8],
     directions: &[u8],
-) -> Result<()> {
+) -> Result {
     let n = head.rows;
     let m = head.columns;
     let mut places = [0u16; 1024];
@@ -118,7 +119,7 @@ fn draw_planned(
 }
 
 // Plans and draws a map that was read. Only the exact planner, which is not asked here, answers a decision.
-fn draw_map(out: &mut impl Write, head: Head, grid: &[u8]) -> Result<()> {
+fn draw_map(out: &mut impl Write, head: Head, grid: &[u8]) -> Result {
     let mut directions = [0u8; 1024];
     match repair::plan_repair(head.rows, head.columns, grid, &mut directions, LIMIT) {
         Answer::Planned(o) => draw_planned(out, head, o, grid, &directions),
@@ -127,14 +128,13 @@ fn draw_map(out: &mut impl Write, head: Head, grid: &[u8]) -> Result<()> {
     }
 }
 
-fn main(rt: HostRuntime) -> Result<()> {
+fn main() {
     let mut buf = io::buffer();
     let k = io::read_full(STDIN_FILENO, &mut buf);
     let mut grid = [0u8; 1024];
-    let mut out = BufWriter::new(rt.alloc(), std::io::writer(&rt))?;
-    match readers::read_map(&buf[..k], &mut grid) {
-        Ok(head) => draw_map(&mut out, head, &grid)?,
-        Err(r) => draw_refusal(&mut out, r)?,
-    }
-    out.flush()
+    // What cannot be written is lost: the status stays 0.
+    let _ = match readers::read_map(&buf[..k], &mut grid) {
+        Ok(head) => draw_map(&mut Console, head, &grid),
+        Err(r) => draw_refusal(&mut Console, r),
+    };
 }

@@ -1,5 +1,5 @@
 // The fixed parts of the picture: styles, symbols and legend.
-use std::io::{Result, Write};
+use std::fmt::{Result, Write};
 
 // The styles of text (t title, g legend, n numbers along the edge, e letters, c cells, m moved cells), of lines (u tracks, j joins, l links),
 // of paths by direction (b bands, h arrowheads, o processors with moved cells), of processors (p inner, s spare, f fault, x its cross, k what
@@ -69,7 +69,7 @@ pub const SYMBOLS: &str = "<defs>
 ";
 
 // The beginning of a picture of a width and a height.
-pub fn open(out: &mut impl Write, width: usize, height: usize) -> Result<()> {
+pub fn open(out: &mut impl Write, width: usize, height: usize) -> Result {
     writeln!(
         out,
         "<svg xmlns='http://www.w3.org/2000/svg' xmlns:xlink='http://www.w3.org/1999/xlink'"
@@ -78,7 +78,7 @@ pub fn open(out: &mut impl Write, width: usize, height: usize) -> Result<()> {
         out,
         "version='1.1' width='{width}' height='{height}' viewBox='0 0 {width} {height}'>"
     )?;
-    out.write_all(STYLES.as_bytes())
+    out.write_str(STYLES)
 }
 
 // The legend of what only a plan has: paths, cells, switches and tracks.
@@ -112,11 +112,11 @@ const MAP_ROWS: &str = "<use xlink:href='#fo' transform='scale(.7)'/>
 ";
 
 // The legend, at a distance from the left.
-pub fn legend(out: &mut impl Write, x: usize, planned: bool) -> Result<()> {
+pub fn legend(out: &mut impl Write, x: usize, planned: bool) -> Result {
     writeln!(out, "<g transform='translate({x} 100)'>")?;
-    out.write_all(MAP_ROWS.as_bytes())?;
+    out.write_str(MAP_ROWS)?;
     if planned {
-        out.write_all(PLAN_ROWS.as_bytes())?;
+        out.write_str(PLAN_ROWS)?;
     }
     writeln!(out, "</g>")
 }

@@ -9,6 +9,7 @@ ghost use Rattle.std.specs.Prelude.{◌≡◌};
 ghost use Rattle.history.specs.Held.{held_after};
 
 use array::{Refusal, Verdict};
+use console::Console;
 use readers::Head;
 use sessions::Session;
 use std::fmt;
@@ -239,7 +240,7 @@ fn tell(rt: &impl Print, map: &[u8], plan: &[u8], text: &[u8]) -> std::io::Resul
     }
 }
 
-fn main(rt: HostRuntime) {
+fn main() {
     let mut map = io::buffer();
     let n = io::read_full(MAP, &mut map);
     let mut plan = io::buffer();
@@ -247,5 +248,5 @@ fn main(rt: HostRuntime) {
     let mut text = io::large_buffer();
     let length = io::read_full(STDIN_FILENO, &mut text);
     // What cannot be written is lost: the status stays 0.
-    let _ = tell(&rt, &map[..n], &plan[..k], &text[..length]);
+    let _ = tell(&Console, &map[..n], &plan[..k], &text[..length]);
 }

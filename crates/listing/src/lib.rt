@@ -10,7 +10,7 @@ ghost use Rattle.listing.specs.Listing.{along, digits, field, line, direction_le
 ghost use Rattle.listing.specs.Listing.{fault_bytes, seat_bytes, letter_bytes, switch_line, plan_lines};
 ghost use Rattle.listing.specs.Listing.{repair_lines, outcome_lines, decision_lines, refusal_line, head_line, planned_lines};
 ghost use Rattle.listing.specs.Listing.{listing, reported};
-ghost use Rattle.listing.specs.Parts.{HasRoom};
+ghost use Rattle.listing.specs.Parts.{HasRoom, Fronts};
 
 use array::{Reason, Refusal};
 use arrayvec::ArrayVec;
@@ -284,7 +284,7 @@ fn push_map(text: &mut Text, planner: Planner, head: Head, grid: &[u8; 1024])
     }
 }
 
-// Writes the listing of a map file by a planner to an empty text, which the caller has, so that there is one only.
+// Inner part: writes the listing of a map file by a planner to an empty text, which the caller has, so that there is one only.
 pub fn list_map(planner: Planner, s: &[u8], text: &mut Text)
     requires { text.old.items ≡ [] }
     ensures { text.new.items ≡ listing planner s.now }
@@ -294,6 +294,18 @@ pub fn list_map(planner: Planner, s: &[u8], text: &mut Text)
         Ok(head) => push_map(text, planner, head, &grid),
         Err(r) => push_refusal(text, r),
     }
+}
+
+// Inner part: writes the listing of a map file to the front of `out`, where there is always room, and gives its length.
+pub fn write_listing(planner: Planner, out: &mut [u8], s: &[u8]) -> usize
+    requires { length out.old ≡ 32768 }
+    ensures { Fronts (listing planner s.now) result out.new }
+{
+    let mut text = Text::new();
+    list_map(planner, s, &mut text);
+    let length = text.len();
+    out[..length].copy_from_slice(text.as_slice());
+    length
 }
 
 // Writes the listing of a map file by a planner to `out` and answers its length, with the bytes after it kept. Where `out` is too

@@ -1,4 +1,4 @@
--- Lists of faults: the test 4 by index, what it says where it refuses nothing, and that the first 1,024 of a list decide its check.
+-- Lists of faults: the test 4 by index, and what it says where it refuses nothing.
 -- Assumes nothing.
 use Rattle.std.specs.Prelude.{Ok}
 use mathlib.Core.Path.{◌≡◌, refl, sym, ap, subst, ◌∙◌}

@@ -70,7 +70,7 @@ pub fn check_fault_list(n: usize, m: usize, grid: &[u8], faults: &[Fault]) -> Ve
     check_beside(&map, &starts[..count], faults)
 }
 
-// The plan check of the list of the first `count` of four faults, for `cases`, which holds them by value.
+// The plan check of the list of the first `count` of four faults, for a caller that holds them by value.
 pub fn check_few(
     n: usize,
     m: usize,

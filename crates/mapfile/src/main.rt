@@ -2,6 +2,7 @@
 // nothing to standard output then.
 #![tactic(auto)]
 
+use console::Console;
 use std::io::Result;
 
 // The descriptor of standard input.
@@ -18,15 +19,22 @@ fn write_map(rt: &(impl Print + Eprint), n: usize, m: usize, grid: &[u8; 1024]) 
     Ok(())
 }
 
-fn main(rt: HostRuntime) -> Result<()> {
-    let mut buf = io::large_buffer();
-    let k = io::read_full(STDIN_FILENO, &mut buf);
-    if k == buf.len() {
+// Turns the bytes that were read, which fill the buffer where there are more.
+fn convert(rt: &(impl Print + Eprint), text: &[u8], is_full: bool) -> Result<()> {
+    if is_full {
+        let k = text.len();
         return eprintln!(rt; "the text is too long: it has {k} bytes or more");
     }
     let mut grid = [2u8; 1024];
-    match grids::read_text(&buf[..k], &mut grid) {
-        Ok((n, m)) => write_map(&rt, n, m, &grid),
+    match grids::read_text(text, &mut grid) {
+        Ok((n, m)) => write_map(rt, n, m, &grid),
         Err(wrong) => eprintln!(rt; "{wrong}"),
     }
+}
+
+fn main() {
+    let mut buf = io::large_buffer();
+    let k = io::read_full(STDIN_FILENO, &mut buf);
+    // What cannot be written is lost: the status stays 0.
+    let _ = convert(&Console, &buf[..k], k == buf.len());
 }

@@ -2,6 +2,7 @@
 // standard error, and nothing to standard output then; bin/mapfile puts it in words.
 #![tactic(auto)]
 
+use console::Console;
 use readers::Head;
 use std::io::Result;
 
@@ -19,12 +20,13 @@ fn print_text(rt: &(impl Print + Eprint), head: Head, grid: &[u8]) -> Result<()>
     Ok(())
 }
 
-fn main(rt: HostRuntime) -> Result<()> {
+fn main() {
     let mut buf = io::buffer();
     let n = io::read_full(STDIN_FILENO, &mut buf);
     let mut grid = [2u8; 1024];
-    match readers::read_map(&buf[..n], &mut grid) {
-        Ok(head) => print_text(&rt, head, &grid),
-        Err(r) => eprintln!(rt; "refused {} at byte {}", r.number(), r.place),
-    }
+    // What cannot be written is lost: the status stays 0.
+    let _ = match readers::read_map(&buf[..n], &mut grid) {
+        Ok(head) => print_text(&Console, head, &grid),
+        Err(r) => eprintln!(Console; "refused {} at byte {}", r.number(), r.place),
+    };
 }

@@ -4,7 +4,7 @@
 
 ghost use Rattle.std.specs.Prelude.{◌≡◌, ◌&&◌, eqb, ◌-◌, ◌≤◌, ◌<◌, length, take, IfSome, unwrap_or};
 ghost use Rattle.array.specs.Buffer.{buffer};
-ghost use Rattle.paths.specs.Path.{is_open};
+ghost use Rattle.paths.specs.Path.{is_open, Start};
 ghost use Rattle.plans.specs.Faults.{faults};
 ghost use Rattle.trials.specs.Inner.{Searchable};
 ghost use Rattle.trials.specs.Search.{outcome, directions_written};
@@ -48,15 +48,21 @@ fn find_least(left: &[u16], d: u8) -> usize
     least
 }
 
-// Whether a path starts at this depth on its side, and is open.
-fn is_outward(path: Path, grid: &[u8; 1024], least: usize) -> bool
-    ensures { result ≡ (eqb (depth path.direction path.start) least
-        && is_open path.shape.rows path.shape.columns grid.now path.start path.direction) }
+// Whether p lies at this depth on the side d, and its path there is open. (The path is made where the depth is right: most faults have another.)
+fn is_outward(map: &Map, p: usize, d: u8, least: usize) -> bool
+    requires { Start map.now.shape.rows map.now.shape.columns p d }
+    ensures { result ≡ (eqb (depth d p) least
+        && is_open map.now.shape.rows map.now.shape.columns map.now.grid.now p d) }
 {
-    if depth(path.start, path.direction) != least {
+    if depth(p, d) != least {
         return false;
     }
-    path.is_open(grid)
+    let path = Path {
+        shape: map.shape,
+        start: p,
+        direction: d,
+    };
+    path.is_open(map.grid)
 }
 
 // Where the first of the faults left stands that is outermost on the side d and has an open path there. (Inlined, its loop gets
@@ -70,12 +76,7 @@ fn find_outward(map: &Map, left: &[u16], d: u8) -> Option<usize>
 {
     let least = find_least(left, d);
     for (k, &p) in left.iter().enumerate() {
-        let path = Path {
-            shape: map.shape,
-            start: usize::from(p),
-            direction: d,
-        };
-        if is_outward(path, map.grid, least) {
+        if is_outward(map, usize::from(p), d, least) {
             return Some(k);
         }
     }

@@ -4,6 +4,7 @@
 #![tactic(auto)]
 
 use array::{Refusal, Verdict};
+use console::Console;
 use readers::Head;
 use std::io::Result;
 
@@ -51,14 +52,15 @@ fn check_file(rt: &impl Print, map: Head, grid: &[u8], s: &[u8]) -> Result<()> {
     }
 }
 
-fn main(rt: HostRuntime) -> Result<()> {
+fn main() {
     let mut map_file = io::buffer();
     let n = io::read_full(STDIN_FILENO, &mut map_file);
     let mut plan_file = io::buffer();
     let k = io::read_full(PLAN_FILENO, &mut plan_file);
     let mut grid = [2u8; 1024];
-    match readers::read_map(&map_file[..n], &mut grid) {
-        Ok(map) => check_file(&rt, map, &grid, &plan_file[..k]),
-        Err(r) => print_refusal(&rt, "map", r),
-    }
+    // What cannot be written is lost: the status stays 0.
+    let _ = match readers::read_map(&map_file[..n], &mut grid) {
+        Ok(map) => check_file(&Console, map, &grid, &plan_file[..k]),
+        Err(r) => print_refusal(&Console, "map", r),
+    };
 }

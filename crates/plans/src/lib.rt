@@ -26,8 +26,8 @@ pub struct Fault {
 // check_plan is for callers; the other functions are inner parts.
 
 // Inner part: writes the inner faults in row order to the front of `out`, and returns their number.
-pub fn list_faults(n: usize, m: usize, grid: &[u8], out: &mut [u16; 1024]) -> usize
-    requires { length grid.now ≡ 1024 }
+pub fn list_faults(n: usize, m: usize, grid: &[u8], out: &mut [u16]) -> usize
+    requires { (length grid.now ≡ 1024) × (length out.old ≡ 1024) }
     ensures { Listed n m grid.now out.old out.new result }
 {
     let mut count = 0;

@@ -4,6 +4,7 @@
 #![tactic(auto)]
 
 use array::Refusal;
+use console::Console;
 use exact::Decision;
 use readers::Head;
 use repair::{Answer, Planner};
@@ -93,14 +94,15 @@ fn planner_of(letter: u8) -> Planner {
     }
 }
 
-fn main(rt: HostRuntime) -> Result<()> {
+fn main() {
     let mut choice = [0u8; 1];
     io::read_full(CHOICE_FILENO, &mut choice);
     let mut buf = io::buffer();
     let n = io::read_full(STDIN_FILENO, &mut buf);
     let mut grid = [2u8; 1024];
-    match readers::read_map(&buf[..n], &mut grid) {
-        Ok(head) => plan_map(&rt, planner_of(choice[0]), head, &grid),
-        Err(r) => tell_refusal(&rt, r),
-    }
+    // What cannot be written is lost: the status stays 0.
+    let _ = match readers::read_map(&buf[..n], &mut grid) {
+        Ok(head) => plan_map(&Console, planner_of(choice[0]), head, &grid),
+        Err(r) => tell_refusal(&Console, r),
+    };
 }

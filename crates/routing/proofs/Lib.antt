@@ -1,2 +1,3 @@
 pub mod Painting
+pub mod States
 pub mod Agreement

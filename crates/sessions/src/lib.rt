@@ -105,17 +105,24 @@ impl Session {
         ensures { self.new ≡ begun plan.now.map.shape.rows plan.now.map.shape.columns plan.now.map.grid.now
             plan.now.directions.now }
     {
-        let table = paths::clash_table();
         let shape = plan.map.shape;
         let directions = plan.directions;
         self.rows = shape.rows;
         self.columns = shape.columns;
         self.grid = *plan.map.grid;
         self.directions = *directions;
-        self.south = counters::count_afresh(&table, shape, directions, 1);
-        self.north = counters::count_afresh(&table, shape, directions, 2);
-        self.east = counters::count_afresh(&table, shape, directions, 3);
-        self.west = counters::count_afresh(&table, shape, directions, 4);
+        self.south = [0; 1024];
+        self.north = [0; 1024];
+        self.east = [0; 1024];
+        self.west = [0; 1024];
+        counters::count_all(
+            shape,
+            directions,
+            &mut self.south,
+            &mut self.north,
+            &mut self.east,
+            &mut self.west,
+        );
     }
 
     // Tests 1 to 7 of the session, and 15 of a reported position.
@@ -217,10 +224,15 @@ impl Session {
         if e != 0 {
             let table = paths::clash_table();
             let path = self.path(p, e);
-            counters::alter_counters(path, &table, change, 1, &mut self.south);
-            counters::alter_counters(path, &table, change, 2, &mut self.north);
-            counters::alter_counters(path, &table, change, 3, &mut self.east);
-            counters::alter_counters(path, &table, change, 4, &mut self.west);
+            counters::alter_all(
+                path,
+                &table,
+                change,
+                &mut self.south,
+                &mut self.north,
+                &mut self.east,
+                &mut self.west,
+            );
         }
     }
 

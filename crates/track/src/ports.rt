@@ -134,8 +134,8 @@ impl Node {
     {
         match self {
             Node::Processor(x, y) => shape.is_processor_at(x, y),
-            Node::Across(x, y) => shape.is_processor_at(x, y) & shape.is_processor_at(x, y + 1),
-            Node::Down(x, y) => shape.is_processor_at(x, y) & shape.is_processor_at(x + 1, y),
+            Node::Across(x, y) => shape.is_processor_at(x, y) && shape.is_processor_at(x, y + 1),
+            Node::Down(x, y) => shape.is_processor_at(x, y) && shape.is_processor_at(x + 1, y),
         }
     }
 }

@@ -155,9 +155,9 @@ impl Trials<'_> {
 }
 
 // Inner part: the search, over room of its own.
-pub fn search_within(map: &Map, starts: &[u16], chosen: &mut [u8; 1024], limit: u32) -> Outcome
+pub fn search_within(map: &Map, starts: &[u16], chosen: &mut [u8], limit: u32) -> Outcome
     requires { Searchable map.now.shape.rows map.now.shape.columns map.now.grid.now starts.now
-        × (length starts.now ≤ 1024) }
+        × (length starts.now ≤ 1024) × (length starts.now ≤ length chosen.old) }
     ensures outcome { result
         ≡ outcome limit (searched map.now.shape.rows map.now.shape.columns map.now.grid.now [] starts.now) }
     ensures plan { Holds limit (searched map.now.shape.rows map.now.shape.columns map.now.grid.now [] starts.now)

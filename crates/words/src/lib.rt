@@ -91,7 +91,7 @@ impl<'a> FirstWords<'a> {
         let mut words = Words::of(line);
         FirstWords {
             words: std::array::from_fn(|_| words.next().unwrap_or_default()),
-            count: Words::of(line).count().min(MOST),
+            count: Words::of(line).take(MOST).count(),
         }
     }
 

@@ -1,7 +1,6 @@
-use Rattle.std.proofs.Common.{◌≡◌, sym, ◌∙◌, ◌+◌, ◌*◌, arith}
+use Rattle.std.proofs.Common.{◌≡◌, sym, ◌+◌, ◌*◌, arith}
 use Rattle.array.proofs.Places.{inner_between}
-use Rattle.counters.proofs.Altering.{alter_start, alter_step, alter_stay, alter_past, alter_end, inner_there}
-use Rattle.counters.proofs.alter_counters.Goals.{then-does_count, else-does_count}
+use Rattle.counters.proofs.Altering.{alter_start, alter_here, alter_past, alter_end, inner_there}
 use Rattle.counters.proofs.alter_counters.Goals as goal
 
 pub loop-x-init : goal.loop-x-init
@@ -14,8 +13,8 @@ loop-y-init c =
     let small = s.shape.small in
     alter_past c.loop-x.invariant (32 * c.loop-x.x + 1) (omega arith) (omega arith) (λ k a b i. omega (arith, i.column_low))
 
-pub does_count-requires : goal.does_count-requires
-does_count-requires c =
+pub alter_at-requires : goal.alter_at-requires
+alter_at-requires c =
     let s = c.args.path.shape in
     record {
       lookup = c.requires;
@@ -31,14 +30,7 @@ loop-y-preserved c =
     let inside = inner_between s.shape.rows s.shape.columns x y (omega arith) (omega arith) (omega arith) (omega arith) in
     let here = inner_there s.shape.rows s.shape.columns c.args.d s.start s.direction x y inside s.starts in
     let next : 32 * x + y + 1 ≡ 32 * x + (y + 1) = omega arith in
-    elim c.if-does_count.branch [
-      | then-does_count w ↦
-          rw (w.counters-is, sym next)
-          (alter_step c.loop-y.invariant (omega arith) here (sym c.does_count.ensures ∙ w.if-does_count.true) w.alter.ensures)
-      | else-does_count w ↦
-          rw (w.counters-is, sym next)
-          (alter_stay c.loop-y.invariant (omega arith) (sym c.does_count.ensures ∙ w.if-does_count.false))
-    ]
+    rw (sym next) (alter_here c.loop-y.invariant (omega arith) here c.alter_at.ensures)
 
 pub loop-x-preserved : goal.loop-x-preserved
 loop-x-preserved c =

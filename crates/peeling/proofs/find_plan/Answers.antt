@@ -9,7 +9,8 @@ search_within-found-requires c =
     let l = c.list_faults-count.ensures in
     let many = c.peel-settled.auto.left ∙ sym l.size in
     let m = c.args.map.now in
-    (starts_searchable e _ many _ m.shape.small.0 m.shape.small.1 m.long, starts_short e _ many _ l.short)
+    let short = starts_short e _ many _ l.short in
+    (starts_searchable e _ many _ m.shape.small.0 m.shape.small.1 m.long, short, short)
 
 pub write_found-requires : goal.write_found-requires
 write_found-requires c =

@@ -13,13 +13,13 @@ loop-p-preserved c =
     let s = c.loop-p.invariant in
     elim c.if-is_inner_fault.branch [
       | then-is_inner_fault w ↦ rw (w.out-is, w.count-is)
-          (collect_take s _ (omega (arith, c.requires)) (sym c.is_inner_fault.ensures ∙ w.if-is_inner_fault.true) refl)
+          (collect_take s _ (omega (arith, c.requires.0)) (sym c.is_inner_fault.ensures ∙ w.if-is_inner_fault.true) refl)
       | else-is_inner_fault w ↦ rw (w.out-is, w.count-is)
-          (collect_skip s (omega (arith, c.requires)) (sym c.is_inner_fault.ensures ∙ w.if-is_inner_fault.false))
+          (collect_skip s (omega (arith, c.requires.0)) (sym c.is_inner_fault.ensures ∙ w.if-is_inner_fault.false))
     ]
 
 pub returns : goal.returns
 unfolding faults
 returns c =
-    let h = c.requires in
+    let h = c.requires.0 in
     listing h (collect_count c.loop-p.invariant (omega (arith, h))) (collect_list c.loop-p.invariant (omega (arith, h)))

@@ -7,7 +7,7 @@ pub search_within-found-requires : goal.search_within-found-requires
 search_within-found-requires c =
     let l = c.list_faults-count.ensures in
     let m = c.args.map.now in
-    (ready l m.shape.small.0 m.shape.small.1 m.long, omega (arith, l.size, l.short))
+    (ready l m.shape.small.0 m.shape.small.1 m.long, omega (arith, l.size, l.short), omega (arith, l.size, l.short))
 
 pub write_found-requires : goal.write_found-requires
 write_found-requires c =

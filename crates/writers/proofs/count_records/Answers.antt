@@ -1,13 +1,21 @@
-use Rattle.std.proofs.Common.{◌≡◌, sym, ◌∙◌, arith, rules}
-use Rattle.std.proofs.lemmas.List.Sums.{count_by-le-length}
-use Rattle.std.specs.Prelude.{count_by}
-use Rattle.formats.specs.Records.{recorded}
-use Rattle.writers.proofs.Records.{counted_by}
+use Rattle.std.proofs.Common.{arith}
+use Rattle.array.proofs.Counts.{count_start, count_take, count_skip, count_end}
+use Rattle.formats.specs.Records.{record_count}
+use Rattle.writers.proofs.count_records.Goals.{then-is_recorded, else-is_recorded}
 use Rattle.writers.proofs.count_records.Goals as goal
 
+pub loop-p-init : goal.loop-p-init
+loop-p-init c = count_start _ _
+
+pub loop-p-preserved : goal.loop-p-preserved
+loop-p-preserved c =
+    let s = c.loop-p.invariant in
+    let e = c.is_recorded.ensures c.loop-p.p in
+    elim c.if-is_recorded.branch [
+      | then-is_recorded w ↦ rw w.count-is (count_take s (omega arith) e w.if-is_recorded.true)
+      | else-is_recorded w ↦ rw w.count-is (count_skip s (omega arith) e w.if-is_recorded.false)
+    ]
+
 pub returns : goal.returns
-returns c =
-    let e : c.count.result ≡ count_by (recorded c.args.kind 0) c.args.b.now = search rules in (
-      e ∙ sym (counted_by c.args.kind c.args.b.now),
-      omega (arith, e, count_by-le-length (recorded c.args.kind 0) c.args.b.now, c.requires),
-    )
+unfolding record_count
+returns c = (count_end c.loop-p.invariant (omega arith), omega arith)

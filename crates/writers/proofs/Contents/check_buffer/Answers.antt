@@ -1,4 +1,4 @@
-use Rattle.std.proofs.Common.{◌≡◌, Bool, sym, ap, ◌∙◌}
+use Rattle.std.proofs.Common.{Bool, sym, ap, ◌∙◌}
 use Rattle.array.specs.Buffer.{long}
 use Rattle.array.specs.Map.{map_tests}
 use Rattle.array.specs.Tests.{verdict_of}
